@@ -1,0 +1,19 @@
+-- The contract of each public function allows one result.
+use Rattle.unique.specs.Unique.{OneResult}
+use Rattle.unique.proofs.Equation.{one-by-equation}
+use Rattle.interval.proofs.Interval.holds.Reads as holds
+use Rattle.interval.proofs.Interval.proper.Reads as proper
+use Rattle.interval.proofs.Interval.length.Reads as length
+use Rattle.interval.proofs.Interval.meeting.Reads as meeting
+
+one-holds : OneResult holds.Post
+one-holds = one-by-equation _ _
+
+one-proper : OneResult proper.Post
+one-proper = one-by-equation _ _
+
+one-length : OneResult length.Post
+one-length = one-by-equation _ _
+
+one-meeting : OneResult meeting.Post
+one-meeting = one-by-equation _ _

@@ -1,0 +1,36 @@
+-- Something holds of every element (`All`), or of every element and each after it (`Each`).
+use mathlib.Core.List.{List, [], _∷_, _++_}
+
+module _ {A : Type 0} where
+  abbrev pub All : (A → Type 0) → List A → Type 0
+  All P [] = Unit {0}
+  All P (x ∷ xs) = P x × All P xs
+
+  -- x stands in R to all after it, and so on
+  abbrev pub Each : (A → A → Type 0) → List A → Type 0
+  Each R [] = Unit {0}
+  Each R (x ∷ xs) = All (R x) xs × Each R xs
+
+  pub all-any : (P : A → Type 0) → ((x : A) → P x) → (xs : List A) → All P xs
+  all-any P h [] = tt
+  all-any P h (x ∷ xs) = (h x, all-any P h xs)
+
+  pub all-append : (P : A → Type 0) (xs ys : List A) → All P xs → All P ys → All P (xs ++ ys)
+  all-append P [] ys h k = k
+  all-append P (x ∷ xs) ys h k = (h .0, all-append P xs ys (h .1) k)
+
+  pub all-map : (P Q : A → Type 0) → ((x : A) → P x → Q x) → (xs : List A) → All P xs → All Q xs
+  all-map P Q f [] h = tt
+  all-map P Q f (x ∷ xs) h = (f x (h .0), all-map P Q f xs (h .1))
+
+  pub all-map₂ : (P Q R : A → Type 0) → ((x : A) → P x → Q x → R x) → (xs : List A) → All P xs → All Q xs → All R xs
+  all-map₂ P Q R f [] h k = tt
+  all-map₂ P Q R f (x ∷ xs) h k = (f x (h .0) (k .0), all-map₂ P Q R f xs (h .1) (k .1))
+
+  pub each-map : (R S : A → A → Type 0) → ((x y : A) → R x y → S x y) → (xs : List A) → Each R xs → Each S xs
+  each-map R S f [] h = tt
+  each-map R S f (x ∷ xs) h = (all-map (R x) (S x) (f x) xs (h .0), each-map R S f xs (h .1))
+
+  pub each-append : (R : A → A → Type 0) (xs ys : List A) → Each R xs → Each R ys → All (λ (x : A). All (R x) ys) xs → Each R (xs ++ ys)
+  each-append R [] ys h k m = k
+  each-append R (x ∷ xs) ys h k m = (all-append (R x) xs ys (h .0) (m .0), each-append R xs ys (h .1) k (m .1))

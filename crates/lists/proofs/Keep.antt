@@ -1,0 +1,60 @@
+-- Laws of `keep` and `tally`.
+use Prim.Native.Nat.{ℕ, suc, _+_}
+use native.Mathlib.Omega.{arith}
+use mathlib.Core.Bool.{Bool, true, false, cond, true≢false, Bool-discrete}
+use mathlib.Core.List.{List, [], _∷_, _++_, flatMap, filter, Perm, Perm·filter}
+use mathlib.Core.Logic.{ite}
+use mathlib.Core.Path.{_≡_, refl, sym, ap, _∙_}
+use lib.ListN.{length}
+use Rattle.lists.specs.Keep.{keep, tally}
+use Rattle.lists.proofs.All.{All}
+
+module _ {A : Type 0} (p : A → Bool) where
+  pub keep-append : (xs ys : List A) → keep p (xs ++ ys) ≡ keep p xs ++ keep p ys
+  keep-append [] ys = refl
+  keep-append (x ∷ xs) ys = go (p x) (keep-append xs ys)
+    where
+      go : (b : Bool) → keep p (xs ++ ys) ≡ keep p xs ++ keep p ys → cond b (x ∷ keep p (xs ++ ys)) (keep p (xs ++ ys)) ≡ cond b (x ∷ keep p xs) (keep p xs) ++ keep p ys
+      go true e = ap {B = List A} (λ r. x ∷ r) e
+      go false e = e
+
+  pub keep-all : (xs : List A) → All (λ (x : A). p x ≡ true) xs → keep p xs ≡ xs
+  keep-all [] h = refl
+  keep-all (x ∷ xs) h = rw (h .0, keep-all xs (h .1))
+
+  pub keep-none : (xs : List A) → All (λ (x : A). p x ≡ false) xs → keep p xs ≡ []
+  keep-none [] h = refl
+  keep-none (x ∷ xs) h = rw (h .0) (keep-none xs (h .1))
+
+  -- mathlib's filter, by the decision that the test is true
+  keep-filter : (xs : List A) → keep p xs ≡ filter {p = λ (x : A). p x ≡ true} (λ x. Bool-discrete (p x) true) xs
+  keep-filter [] = refl
+  keep-filter (x ∷ xs) = go (p x) (keep-filter xs)
+    where
+      go : (b : Bool) {rest : List A} → keep p xs ≡ rest → cond b (x ∷ keep p xs) (keep p xs) ≡ ite {C = List A} (Bool-discrete b true) (x ∷ rest) rest
+      go true e = ap {B = List A} (λ m. x ∷ m) e
+      go false e = e
+
+  pub keep-perm : (xs ys : List A) → Perm xs ys → Perm (keep p xs) (keep p ys)
+  keep-perm xs ys h = rw (keep-filter xs, keep-filter ys) (Perm·filter {p = λ (x : A). p x ≡ true} (λ x. Bool-discrete (p x) true) h)
+
+  pub tally-keep : (xs : List A) → tally p xs ≡ length (keep p xs)
+  tally-keep [] = refl
+  tally-keep (x ∷ xs) = go (p x) (tally-keep xs)
+    where
+      go : (b : Bool) → tally p xs ≡ length (keep p xs) → cond b (suc (tally p xs)) (tally p xs) ≡ length (cond b (x ∷ keep p xs) (keep p xs))
+      go true e = ap suc e
+      go false e = e
+
+  pub tally-append : (xs ys : List A) → tally p (xs ++ ys) ≡ tally p xs + tally p ys
+  tally-append [] ys = omega arith
+  tally-append (x ∷ xs) ys = go (p x) (tally-append xs ys)
+    where
+      go : (b : Bool) → tally p (xs ++ ys) ≡ tally p xs + tally p ys → cond b (suc (tally p (xs ++ ys))) (tally p (xs ++ ys)) ≡ cond b (suc (tally p xs)) (tally p xs) + tally p ys
+      go true e = omega arith
+      go false e = e
+
+pub keep-flatMap : {A B : Type 0} (p : B → Bool) (f : A → List B) (xs : List A) → keep p (flatMap f xs) ≡ flatMap (λ (x : A). keep p (f x)) xs
+unfolding flatMap
+keep-flatMap p f [] = refl
+keep-flatMap p f (x ∷ xs) = rw (keep-append, keep-flatMap p f xs)

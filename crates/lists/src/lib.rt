@@ -1,0 +1,1 @@
+// The words for lists that the definitions of every other crate share, with their laws. No code.

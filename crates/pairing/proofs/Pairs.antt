@@ -1,0 +1,96 @@
+-- Laws of the pairing test, of the pair and of the order of pairs. Nothing above this file looks into `fits`, `pairs`, `pairOf` or `comesBefore`.
+use Prim.Native.Nat.{ℕ, _<_, _≤_}
+use mathlib.Core.Bool.{Bool, true, false, _&&_, and-false}
+use mathlib.Core.Path.{_≡_, refl, sym, ap, _∙_}
+use Rattle.interval.specs.declared.Interval.{Interval}
+use Rattle.interval.specs.Interval.{holdsAt, properOf, meetingOf}
+use Rattle.interval.proofs.Laws.{holds-proper, meeting-holds, meeting-comm, meeting-start, meeting-ended}
+use Rattle.lists.proofs.Bools.{and-left, and-right, bool-ext}
+use Rattle.lists.proofs.Order.{StrictOrder, Apart, strict-ascending, strict-neither, ascending-more, apart-here, apart-next}
+use Rattle.pairing.specs.declared.Entry.{Entry}
+use Rattle.pairing.specs.declared.Numbered.{Numbered}
+use Rattle.pairing.specs.declared.Pair.{Pair}
+use Rattle.pairing.specs.declared.Rule.{Rule}
+use Rattle.pairing.specs.Rule.{fits}
+use Rattle.pairing.specs.Pair.{pairs, partnerOf, pairOf, comesBefore}
+use Rattle.pairing.specs.Plain.{matchAt}
+
+-- ---- the pairing test
+
+module _ (rule : Rule) (a b : Entry) where
+  abbrev met : Interval
+  met = meetingOf (a .span) (b .span)
+
+  pairs-meeting-and-fits : pairs rule a b ≡ true → properOf met && fits rule (a .key) (b .key) ≡ true
+  unfolding pairs
+  pairs-meeting-and-fits h = and-right (properOf (b .span)) _ (and-right (properOf (a .span)) _ h)
+
+  -- entries that pair have a meeting that is not empty
+  pub pairs-meeting : pairs rule a b ≡ true → properOf met ≡ true
+  pairs-meeting h = and-left (properOf met) (fits rule (a .key) (b .key)) (pairs-meeting-and-fits h)
+
+  -- entries that never hold at once do not pair
+  pairs-apart : properOf met ≡ false → pairs rule a b ≡ false
+  unfolding pairs
+  pairs-apart h = rw (h, and-false (properOf (b .span)), and-false (properOf (a .span)))
+
+  pub pairs-ended-a : a .span .end ≤ b .span .start → pairs rule a b ≡ false
+  pairs-ended-a h = pairs-apart (meeting-ended (a .span) (b .span) h)
+
+  pub pairs-ended-b : b .span .end ≤ a .span .start → pairs rule a b ≡ false
+  pairs-ended-b h = pairs-apart (ap properOf (meeting-comm (a .span) (b .span)) ∙ meeting-ended (b .span) (a .span) h)
+
+  -- at an instant of their meeting, to pair is to hold then and to match
+  pub pairs-at : (t : ℕ) → pairs rule a b && holdsAt t met ≡ matchAt t rule a b
+  unfolding pairs matchAt
+  pairs-at t = bool-ext (pairs rule a b && holdsAt t met) (matchAt t rule a b) to from
+    where
+      to : pairs rule a b && holdsAt t met ≡ true → matchAt t rule a b ≡ true
+      to h =
+          let both = sym (meeting-holds t (a .span) (b .span)) ∙ and-right (pairs rule a b) (holdsAt t met) h in
+          let fit = and-right (properOf met) (fits rule (a .key) (b .key)) (pairs-meeting-and-fits (and-left (pairs rule a b) (holdsAt t met) h)) in
+          rw (and-left (holdsAt t (a .span)) (holdsAt t (b .span)) both, and-right (holdsAt t (a .span)) (holdsAt t (b .span)) both, fit)
+
+      from : matchAt t rule a b ≡ true → pairs rule a b && holdsAt t met ≡ true
+      from h =
+          let at-a = and-left (holdsAt t (a .span)) _ h in
+          let rest = and-right (holdsAt t (a .span)) _ h in
+          let at-b = and-left (holdsAt t (b .span)) (fits rule (a .key) (b .key)) rest in
+          let at-met : holdsAt t met ≡ true = rw (meeting-holds t (a .span) (b .span), at-a, at-b) in
+          rw (
+            holds-proper t (a .span) at-a,
+            holds-proper t (b .span) at-b,
+            holds-proper t met at-met,
+            and-right (holdsAt t (b .span)) (fits rule (a .key) (b .key)) rest,
+            at-met,
+          )
+
+-- ---- the pair
+
+module _ (a b : Numbered) where
+  pub pair-meeting : pairOf a b .meeting ≡ meetingOf (a .entry .span) (b .entry .span)
+  unfolding pairOf
+  pair-meeting = refl
+
+  pub pair-ordinal-a : pairOf a b .a .ordinal ≡ a .ordinal
+  unfolding pairOf partnerOf
+  pair-ordinal-a = refl
+
+  pub pair-ordinal-b : pairOf a b .b .ordinal ≡ b .ordinal
+  unfolding pairOf partnerOf
+  pair-ordinal-b = refl
+
+-- ---- the order of pairs
+
+pub strict-comesBefore : StrictOrder comesBefore
+unfolding comesBefore
+strict-comesBefore = strict-ascending _ _ (strict-ascending _ _ (strict-ascending _ _ strict-neither))
+
+-- pairs that differ in an ordinal differ in order
+pub apart-a : (p q : Pair) → (p .a .ordinal ≡ q .a .ordinal → ⊥) → Apart comesBefore p q
+unfolding comesBefore
+apart-a p q n = apart-next _ _ p q (apart-here _ _ p q n)
+
+pub apart-b : (p q : Pair) → (p .b .ordinal ≡ q .b .ordinal → ⊥) → Apart comesBefore p q
+unfolding comesBefore
+apart-b p q n = apart-next _ _ p q (apart-next _ _ p q (apart-here _ _ p q n))

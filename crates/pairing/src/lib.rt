@@ -1,0 +1,114 @@
+// Entries of the two journals, the rule that pairs them, and the pairs that they make.
+use interval::Interval;
+ghost use mathlib.Core.Path.{_≡_};
+ghost use Rattle.pairing.specs.Pair.{pairs, partnerOf, pairOf, comesBefore};
+ghost use Rattle.pairing.specs.Rule.{distance, fits};
+
+// What a journal says from the start of the span up to its end.
+pub struct Entry {
+    pub span: Interval,
+    pub key: u32,
+    pub value: u32,
+}
+
+// An accepted entry, with how many its journal accepted before it.
+pub struct Numbered {
+    pub entry: Entry,
+    pub ordinal: u32,
+}
+
+// Which keys pair.
+pub enum Rule {
+    Equal,
+    // At most this far apart.
+    Near(u32),
+    Every,
+}
+
+// What a pair carries of one of its entries.
+pub struct Partner {
+    pub ordinal: u32,
+    pub key: u32,
+    pub value: u32,
+}
+
+// Where an A entry and a B entry meet.
+pub struct Pair {
+    pub meeting: Interval,
+    pub a: Partner,
+    pub b: Partner,
+}
+
+// The larger key less the smaller: a difference taken the other way round would wrap.
+fn apart(key: u32, other: u32) -> u32
+    ensures { λ r. ⌜ r ≡ distance key other ⌝ }
+{
+    if key < other {
+        other - key
+    } else {
+        key - other
+    }
+}
+
+impl Rule {
+    // Does the rule hold for the keys of an A and a B entry?
+    pub fn fits(self, a_key: u32, b_key: u32) -> bool
+        ensures { λ r. ⌜ r ≡ fits self «a_key» «b_key» ⌝ }
+    {
+        match self {
+            Rule::Equal => a_key == b_key,
+            Rule::Near(width) => apart(a_key, b_key) <= width,
+            Rule::Every => true,
+        }
+    }
+
+    // Does an A entry pair with a B entry?
+    pub fn pairs(self, a: Entry, b: Entry) -> bool
+        ensures { λ r. ⌜ r ≡ pairs self a b ⌝ }
+    {
+        let meeting = a.span.meeting(b.span);
+        a.span.proper() && (b.span.proper() && (meeting.proper() && self.fits(a.key, b.key)))
+    }
+}
+
+impl Numbered {
+    // What a pair carries of it.
+    pub fn partner(self) -> Partner
+        ensures { λ r. ⌜ r ≡ partnerOf self ⌝ }
+    {
+        Partner {
+            ordinal: self.ordinal,
+            key: self.entry.key,
+            value: self.entry.value,
+        }
+    }
+}
+
+impl Pair {
+    // The pair of an A entry and a B entry.
+    pub fn of(a: Numbered, b: Numbered) -> Pair
+        ensures { λ r. ⌜ r ≡ pairOf a b ⌝ }
+    {
+        let meeting = a.entry.span.meeting(b.entry.span);
+        let of_a = a.partner();
+        let of_b = b.partner();
+        Pair {
+            meeting,
+            a: of_a,
+            b: of_b,
+        }
+    }
+
+    // Does it come before the other in the plain list's order?
+    pub fn comes_before(self, other: Pair) -> bool
+        ensures { λ r. ⌜ r ≡ comesBefore self other ⌝ }
+    {
+        if self.meeting.start != other.meeting.start {
+            return self.meeting.start < other.meeting.start;
+        }
+        if self.a.ordinal != other.a.ordinal {
+            return self.a.ordinal < other.a.ordinal;
+        }
+        self.b.ordinal < other.b.ordinal
+    }
+}

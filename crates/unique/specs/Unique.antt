@@ -1,0 +1,7 @@
+-- Any two results that a contract allows are equal.
+use mathlib.Core.Path.{_≡_}
+
+-- `ensures` is what a contract says of lifetimes, arguments, a result and what is left behind references. For the same arguments it holds of one result at most.
+abbrev pub OneResult : {Lifetimes : Type 0} {Args Result Left : Lifetimes → Type 0} → ((κs : Lifetimes) → Args κs → Result κs → Left κs → Type 0) → Type 0
+OneResult {Lifetimes} {Args} {Result} {Left} ensures =
+    (κs : Lifetimes) (args : Args κs) (x y : Result κs) (left other : Left κs) → ensures κs args x left → ensures κs args y other → x ≡ y

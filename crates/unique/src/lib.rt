@@ -1,0 +1,1 @@
+// What it means that a contract leaves one result: said once, for every function. No code.
