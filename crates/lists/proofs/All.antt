@@ -1,5 +1,8 @@
 -- Something holds of every element (`All`), or of every element and each after it (`Each`).
+use Prim.Native.Nat.{ℕ, zero, suc}
 use mathlib.Core.List.{List, [], _∷_, _++_}
+use mathlib.Core.Path.{_≡_, refl}
+use lib.ListN.{length, take, drop, replicate}
 
 module _ {A : Type 0} where
   abbrev pub All : (A → Type 0) → List A → Type 0
@@ -18,6 +21,21 @@ module _ {A : Type 0} where
   pub all-append : (P : A → Type 0) (xs ys : List A) → All P xs → All P ys → All P (xs ++ ys)
   all-append P [] ys h k = k
   all-append P (x ∷ xs) ys h k = (h .0, all-append P xs ys (h .1) k)
+
+  pub all-take : (P : A → Type 0) (n : ℕ) (xs : List A) → All P xs → All P (take n xs)
+  all-take P zero xs h = tt
+  all-take P (suc n) [] h = tt
+  all-take P (suc n) (x ∷ xs) h = (h .0, all-take P n xs (h .1))
+
+  pub all-drop : (P : A → Type 0) (n : ℕ) (xs : List A) → All P xs → All P (drop n xs)
+  all-drop P zero xs h = h
+  all-drop P (suc n) [] h = tt
+  all-drop P (suc n) (x ∷ xs) h = all-drop P n xs (h .1)
+
+  -- all the same
+  pub all-replicate : (z : A) (xs : List A) → All (λ (x : A). x ≡ z) xs → xs ≡ replicate (length xs) z
+  all-replicate z [] h = refl
+  all-replicate z (x ∷ xs) h = λ i. h .0 i ∷ all-replicate z xs (h .1) i
 
   pub all-map : (P Q : A → Type 0) → ((x : A) → P x → Q x) → (xs : List A) → All P xs → All Q xs
   all-map P Q f [] h = tt

@@ -1,11 +1,13 @@
 -- Laws of `keep` and `tally`.
-use Prim.Native.Nat.{ℕ, suc, _+_}
+use Prim.Native.Nat.{ℕ, suc, _+_, _≤_, _<_}
+use native.Mathlib.Numerals.{add-one}
 use native.Mathlib.Omega.{arith}
 use mathlib.Core.Bool.{Bool, true, false, cond, true≢false, Bool-discrete}
-use mathlib.Core.List.{List, [], _∷_, _++_, flatMap, filter, Perm, Perm·filter}
+use mathlib.Core.List.{List, [], _∷_, _++_, append-nil, map, flatMap, filter, Perm, Perm·filter}
 use mathlib.Core.Logic.{ite}
 use mathlib.Core.Path.{_≡_, refl, sym, ap, _∙_}
-use lib.ListN.{length}
+use lib.ListN.{length, take, getD, length-take}
+use lib.Seq.{take-suc}
 use Rattle.lists.specs.Keep.{keep, tally}
 use Rattle.lists.proofs.All.{All}
 
@@ -25,6 +27,28 @@ module _ {A : Type 0} (p : A → Bool) where
   pub keep-none : (xs : List A) → All (λ (x : A). p x ≡ false) xs → keep p xs ≡ []
   keep-none [] h = refl
   keep-none (x ∷ xs) h = rw (h .0) (keep-none xs (h .1))
+
+  -- one element more is looked at: it is kept, or not
+  keep-take : (l : List A) (i : ℕ) (d : A) → i < length l → keep p (take (i + 1) l) ≡ keep p (take i l) ++ keep p (getD l i d ∷ [])
+  keep-take l i d h = rw (add-one, take-suc l i d h, keep-append)
+
+  pub keep-more : (l : List A) (i : ℕ) (d : A) → i < length l → p (getD l i d) ≡ true → keep p (take (i + 1) l) ≡ keep p (take i l) ++ (getD l i d ∷ [])
+  keep-more l i d h e = rw (keep-take l i d h, e)
+
+  pub keep-same : (l : List A) (i : ℕ) (d : A) → i < length l → p (getD l i d) ≡ false → keep p (take (i + 1) l) ≡ keep p (take i l)
+  keep-same l i d h e = rw (keep-take l i d h, e) (append-nil (keep p (take i l)))
+
+  pub keep-length : (xs : List A) → length (keep p xs) ≤ length xs
+  keep-length [] = omega arith
+  keep-length (x ∷ xs) = go (p x) (keep-length xs)
+    where
+      go : (b : Bool) → length (keep p xs) ≤ length xs → length (cond b (x ∷ keep p xs) (keep p xs)) ≤ suc (length xs)
+      go true h = omega arith
+      go false h = omega arith
+
+  -- what is kept of the first i is at most i
+  pub keep-bound : (l : List A) (i : ℕ) → length (keep p (take i l)) ≤ i
+  keep-bound l i = omega (arith, keep-length (take i l), length-take i l)
 
   -- mathlib's filter, by the decision that the test is true
   keep-filter : (xs : List A) → keep p xs ≡ filter {p = λ (x : A). p x ≡ true} (λ x. Bool-discrete (p x) true) xs
@@ -53,6 +77,14 @@ module _ {A : Type 0} (p : A → Bool) where
       go : (b : Bool) → tally p (xs ++ ys) ≡ tally p xs + tally p ys → cond b (suc (tally p (xs ++ ys))) (tally p (xs ++ ys)) ≡ cond b (suc (tally p xs)) (tally p xs) + tally p ys
       go true e = omega arith
       go false e = e
+
+pub keep-map : {A B : Type 0} (p : B → Bool) (f : A → B) (xs : List A) → keep p (map f xs) ≡ map f (keep (λ (x : A). p (f x)) xs)
+keep-map p f [] = refl
+keep-map {A} {B} p f (x ∷ xs) = go (p (f x)) (keep-map p f xs)
+  where
+    go : (b : Bool) → keep p (map f xs) ≡ map f (keep (λ (x : A). p (f x)) xs) → cond b (f x ∷ keep p (map f xs)) (keep p (map f xs)) ≡ map f (cond b (x ∷ keep (λ (x : A). p (f x)) xs) (keep (λ (x : A). p (f x)) xs))
+    go true e = ap {B = List B} (λ m. f x ∷ m) e
+    go false e = e
 
 pub keep-flatMap : {A B : Type 0} (p : B → Bool) (f : A → List B) (xs : List A) → keep p (flatMap f xs) ≡ flatMap (λ (x : A). keep p (f x)) xs
 unfolding flatMap

@@ -5,4 +5,7 @@ pub mod Keep
 pub mod Order
 pub mod Sort
 pub mod Grid
-pub mod Pad
+pub mod Judge
+pub mod Store
+pub mod Array
+pub mod InPlace

@@ -1,3 +1,4 @@
 pub mod Keep
 pub mod Sort
-pub mod Pad
+pub mod Judge
+pub mod Store

@@ -1,0 +1,236 @@
+// The area of a journal: its held entries with their ordinals, in places that the caller lends.
+use interval::Interval;
+use journal::Gate;
+use journal::Journal;
+use pairing::Entry;
+use pairing::Numbered;
+use pairing::Rule;
+ghost use mathlib.Core.Path.{_≡_};
+ghost use mathlib.Core.Bool.{true};
+ghost use mathlib.Core.List.{[], _∷_, _++_, map};
+ghost use Prim.Native.Nat.{_-_, _≤_, _<_};
+ghost use lib.ListN.{length, getD, take, drop, replicate};
+ghost use Rattle.lists.specs.Judge.{allOf, chain};
+ghost use Rattle.lists.specs.Keep.{keep};
+ghost use Rattle.lists.proofs.Array.{Shaped};
+ghost use Rattle.journal.specs.Journal.{wanted};
+ghost use Rattle.area.specs.Area.{heldIn, rowOf, places, held, areaOf, rowsOf, Holds, partners, wantedBy, soundEntry, follows, isBlank, soundArea};
+
+// How many of the places are taken.
+pub struct Area {
+    pub count: usize,
+}
+
+impl Area {
+    // How many entries an area may hold.
+    pub const PLACES: usize = 64;
+}
+
+// A row is start, end, key, value and ordinal.
+pub type Places = [[u32; 5]; Area::PLACES];
+
+// The entry that a row holds.
+pub fn entry_in(row: [u32; 5]) -> Numbered
+    ensures { λ r. ⌜ r ≡ heldIn row ⌝ }
+{
+    let span = Interval {
+        start: row[0],
+        end: row[1],
+    };
+    let entry = Entry {
+        span,
+        key: row[2],
+        value: row[3],
+    };
+    Numbered {
+        entry,
+        ordinal: row[4],
+    }
+}
+
+// The row of an entry.
+fn row_of(x: Numbered) -> [u32; 5]
+    ensures { λ r. ⌜ r ≡ rowOf x ⌝ }
+{
+    [
+        x.entry.span.start,
+        x.entry.span.end,
+        x.entry.key,
+        x.entry.value,
+        x.ordinal,
+    ]
+}
+
+// Places with nothing in them.
+pub fn no_places() -> Places
+    ensures { λ r. ⌜ r ≡ rowsOf [] ⌝ }
+{
+    [[0u32; 5]; Area::PLACES]
+}
+
+// The wanted rows moved to the front, in order; answers how many there are.
+fn squeeze(rows: &mut Places, n: usize, gate: Gate) -> usize
+    requires { ⌜ (n ≤ places) × (length (now rows) ≡ places) ⌝ }
+    ensures { λ r. ⌜ (r ≤ n) × (take r (now (rows .exit)) ≡ keep (λ row. wanted gate (heldIn row .entry)) (take n (now (rows .entry)))) × (drop n (now (rows .exit)) ≡ drop n (now (rows .entry))) × (length (now (rows .exit)) ≡ places) ⌝ }
+{
+    let mut kept = 0;
+    let mut i = 0;
+    while i < n {
+        let row = rows[i];
+        let x = entry_in(row);
+        if gate.wants(x.entry) {
+            rows[kept] = row;
+            kept += 1;
+        }
+        i += 1;
+    }
+    kept
+}
+
+// Zeros in the places from one up to another.
+fn blank(rows: &mut Places, from: usize, to: usize)
+    requires { ⌜ (from ≤ to) × (to ≤ places) × (length (now rows) ≡ places) ⌝ }
+    ensures { λ _. ⌜ now (rows .exit) ≡ take from (now (rows .entry)) ++ (replicate (to - from) (replicate 5 0) ++ drop to (now (rows .entry))) ⌝ }
+{
+    let zeros = [0u32; 5];
+    let mut i = from;
+    while i < to {
+        rows[i] = zeros;
+        i += 1;
+    }
+}
+
+// An array behind a reference does not tell how many rows it has and how long they are; its value does, and the copy costs nothing.
+fn shaped(rows: Places)
+    ensures { λ _. ⌜ Shaped places 5 rows ⌝ }
+{}
+
+fn entry_sound(x: Numbered, own: Journal, other: Gate) -> bool
+    ensures { λ r. ⌜ r ≡ soundEntry own other x ⌝ }
+{
+    let gate = own.gate;
+    x.entry.span.proper()
+        && (other.wants(x.entry) && (x.ordinal < own.accepted && gate.reached(x.entry.span.start)))
+}
+
+fn followed(x: Numbered, y: Numbered) -> bool
+    ensures { λ r. ⌜ r ≡ follows x y ⌝ }
+{
+    x.ordinal < y.ordinal && x.entry.span.start <= y.entry.span.start
+}
+
+fn is_blank(x: Numbered) -> bool
+    ensures { λ r. ⌜ r ≡ isBlank x ⌝ }
+{
+    x.entry.span.start == 0
+        && (x.entry.span.end == 0 && (x.entry.key == 0 && (x.entry.value == 0 && x.ordinal == 0)))
+}
+
+// Is every held entry sound?
+fn entries_sound(rows: &Places, n: usize, own: Journal, other: Gate) -> bool
+    requires { ⌜ (n ≤ places) × (length (now rows) ≡ places) ⌝ }
+    ensures { λ r. ⌜ r ≡ allOf (λ row. soundEntry own other (heldIn row)) (take n (now (rows .entry))) ⌝ }
+{
+    let mut i = 0;
+    while i < n {
+        if !entry_sound(entry_in(rows[i]), own, other) {
+            return false;
+        }
+        i += 1;
+    }
+    true
+}
+
+// Does every held entry follow the one before it?
+fn in_order(rows: &Places, n: usize) -> bool
+    requires { ⌜ (n ≤ places) × (length (now rows) ≡ places) ⌝ }
+    ensures { λ r. ⌜ r ≡ chain (λ x y. follows (heldIn x) (heldIn y)) (take n (now (rows .entry))) ⌝ }
+{
+    let mut i = 1;
+    while i < n {
+        let before = entry_in(rows[i - 1]);
+        if !followed(before, entry_in(rows[i])) {
+            return false;
+        }
+        i += 1;
+    }
+    true
+}
+
+// Does every spare place hold zeros?
+fn spare_blank(rows: &Places, n: usize) -> bool
+    requires { ⌜ (n ≤ places) × (length (now rows) ≡ places) ⌝ }
+    ensures { λ r. ⌜ r ≡ allOf (λ row. isBlank (heldIn row)) (drop n (now (rows .entry))) ⌝ }
+{
+    let mut i = n;
+    while i < Area::PLACES {
+        if !is_blank(entry_in(rows[i])) {
+            return false;
+        }
+        i += 1;
+    }
+    true
+}
+
+impl Area {
+    pub fn fresh() -> Area
+        ensures { λ r. ⌜ r ≡ areaOf [] ⌝ }
+    {
+        Area { count: 0 }
+    }
+
+    // One more entry, behind the others.
+    pub fn hold(self, rows: &mut Places, x: Numbered) -> Area
+        requires { ⌜ (Holds self (now rows)) × (self .count < places) ⌝ }
+        ensures { λ r. ⌜ r ≡ areaOf (held self (now (rows .entry)) ++ (x ∷ [])) ⌝ }
+        ensures { λ _. ⌜ now (rows .exit) ≡ rowsOf (held self (now (rows .entry)) ++ (x ∷ [])) ⌝ }
+    {
+        let n = self.count;
+        rows[n] = row_of(x);
+        Area { count: n + 1 }
+    }
+
+    // Only what the other journal's gate still wants.
+    pub fn clear(self, rows: &mut Places, gate: Gate) -> Area
+        requires { ⌜ Holds self (now rows) ⌝ }
+        ensures { λ r. ⌜ r ≡ areaOf (wantedBy gate (held self (now (rows .entry)))) ⌝ }
+        ensures { λ _. ⌜ now (rows .exit) ≡ rowsOf (wantedBy gate (held self (now (rows .entry)))) ⌝ }
+    {
+        let n = self.count;
+        let kept = squeeze(rows, n, gate);
+        blank(rows, kept, n);
+        Area { count: kept }
+    }
+
+    // How many held entries pair with an entry of the other journal?
+    pub fn partners(self, rows: &Places, rule: Rule, e: Entry) -> usize
+        requires { ⌜ (self .count ≤ places) × (length (now rows) ≡ places) ⌝ }
+        ensures { λ r. ⌜ r ≡ length (partners rule e (held self (now (rows .entry)))) ⌝ }
+    {
+        let n = self.count;
+        let mut found = 0;
+        let mut i = 0;
+        while i < n {
+            let x = entry_in(rows[i]);
+            if rule.pairs(e, x.entry) {
+                found += 1;
+            }
+            i += 1;
+        }
+        found
+    }
+
+    // Is the state of the area sound, beside its own journal and the other's gate? Then its places store just what it holds.
+    pub fn sound(self, rows: &Places, own: Journal, other: Gate) -> bool
+        ensures { λ r. ⌜ r ≡ soundArea own other self (now (rows .entry)) ⌝ }
+        ensures { λ r. ⌜ (r ≡ true → Holds self (now (rows .entry))) ⌝ }
+    {
+        let all = *rows;
+        shaped(all);
+        let n = self.count;
+        if Area::PLACES < n {
+            return false;
+        }
+        entries_sound(rows, n, own, other) && (in_order(rows, n) && spare_blank(rows, n))
+    }
+}

@@ -1,0 +1,64 @@
+-- Laws of places that are changed where they stand, one store a turn.
+use Prim.Native.Nat.{ℕ, suc, _+_, _-_, _≤_, _<_}
+use native.Mathlib.Nat.{add-zero}
+use native.Mathlib.Numerals.{add-one}
+use native.Mathlib.Omega.{arith}
+use mathlib.Core.Bool.{Bool, true, false}
+use mathlib.Core.List.{List, [], _∷_, _++_, append-assoc}
+use mathlib.Core.Path.{_≡_, refl, sym, ap, _∙_}
+use lib.ListN.{length, replicate, take, drop, set, getD, length-append, length-replicate, length-take, take-append-drop, replicate-append-replicate}
+use lib.Seq.{drop-cons, getD-drop, set-at, take-suc-set, drop-set-lt, drop-drop, length-take-le}
+use Rattle.lists.specs.Keep.{keep}
+use Rattle.lists.specs.Store.{padTo}
+use Rattle.lists.proofs.Keep.{keep-more, keep-same}
+
+-- ---- zeros are written from a place on
+
+module _ {A : Type 0} (l₀ : List A) (from i : ℕ) (z : A) (behind : from ≤ i) where
+  pub blank-start : from ≡ i → l₀ ≡ take from l₀ ++ (replicate (i - from) z ++ drop i l₀)
+  blank-start h =
+      let f : i - from ≡ 0 = omega arith in
+      sym (take-append-drop from l₀) ∙ ap (λ (m : ℕ). take from l₀ ++ drop m l₀) h ∙ ap (λ (m : ℕ). take from l₀ ++ (replicate m z ++ drop i l₀)) (sym f)
+
+  pub blank-step : i < length l₀ → (l : List A) → l ≡ take from l₀ ++ (replicate (i - from) z ++ drop i l₀) → set l i z ≡ take from l₀ ++ (replicate ((i + 1) - from) z ++ drop (i + 1) l₀)
+  blank-step inside l e =
+      let f : (i + 1) - from ≡ (i - from) + 1 = omega arith in
+      let front = take from l₀ ++ replicate (i - from) z in
+      let long : length front ≡ i = simp (length-append, length-take, length-replicate) (omega arith) in
+      ap (λ (l : List A). set l i z) (e ∙ sym (append-assoc (take from l₀) (replicate (i - from) z) (drop i l₀)) ∙ ap (λ (t : List A). front ++ t) (drop-cons l₀ i z inside))
+      ∙ set-at front (getD l₀ i z) (drop (suc i) l₀) z i long
+      ∙ append-assoc (take from l₀) (replicate (i - from) z) (z ∷ drop (suc i) l₀)
+      ∙ ap (λ (t : List A). take from l₀ ++ t) (sym (append-assoc (replicate (i - from) z) (z ∷ []) (drop (suc i) l₀)) ∙ ap (λ (t : List A). t ++ drop (suc i) l₀) (replicate-append-replicate (i - from) 1 z))
+      ∙ ap (λ (m : ℕ). take from l₀ ++ (replicate m z ++ drop (suc i) l₀)) (sym f)
+      ∙ ap (λ (m : ℕ). take from l₀ ++ (replicate ((i + 1) - from) z ++ drop m l₀)) (sym (add-one i))
+
+-- ---- what passes a test is moved to the front
+
+module _ {A : Type 0} (p : A → Bool) (l₀ l : List A) (i at : ℕ) (d : A) (inside₀ : i < length l₀) (inside : i < length l) (behind : at ≤ i)
+    (front : take at l ≡ keep p (take i l₀)) (back : drop i l ≡ drop i l₀) where
+  same : getD l i d ≡ getD l₀ i d
+  same =
+      ap (λ (m : ℕ). getD l m d) (sym (add-zero i)) ∙ sym (getD-drop i l 0 d) ∙ ap (λ (t : List A). getD t 0 d) back ∙ getD-drop i l₀ 0 d ∙ ap (λ (m : ℕ). getD l₀ m d) (add-zero i)
+
+  next : drop (i + 1) l ≡ drop (i + 1) l₀
+  next = sym (drop-drop 1 i l) ∙ ap (drop 1) back ∙ drop-drop 1 i l₀
+
+  pub squeeze-kept : p (getD l i d) ≡ true → (take (at + 1) (set l at (getD l i d)) ≡ keep p (take (i + 1) l₀)) × (drop (i + 1) (set l at (getD l i d)) ≡ drop (i + 1) l₀)
+  squeeze-kept e = (
+    ap (λ (m : ℕ). take m (set l at (getD l i d))) (add-one at)
+        ∙ take-suc-set l at (getD l i d) (omega arith)
+        ∙ ap (λ (t : List A). t ++ (getD l i d ∷ [])) front
+        ∙ ap (λ (x : A). keep p (take i l₀) ++ (x ∷ [])) same
+        ∙ sym (keep-more p l₀ i d inside₀ (ap p (sym same) ∙ e)),
+    drop-set-lt (i + 1) l at (getD l i d) (omega arith) ∙ next,
+  )
+
+  pub squeeze-left : p (getD l i d) ≡ false → (take at l ≡ keep p (take (i + 1) l₀)) × (drop (i + 1) l ≡ drop (i + 1) l₀)
+  squeeze-left e = (front ∙ sym (keep-same p l₀ i d inside₀ (ap p (sym same) ∙ e)), next)
+
+-- some elements, with z in the places up to n and beyond, are those elements padded
+pub padded-part : {A : Type 0} (k n gap : ℕ) (z : A) (xs rest : List A) → rest ≡ replicate (k - n) z → length xs + gap ≡ n → n ≤ k → xs ++ (replicate gap z ++ rest) ≡ padTo k z xs
+unfolding padTo
+padded-part {A} k n gap z xs rest e h few =
+    let f : gap + (k - n) ≡ k - length xs = omega arith in
+    ap (λ (t : List A). xs ++ (replicate gap z ++ t)) e ∙ ap (λ (t : List A). xs ++ t) (replicate-append-replicate gap (k - n) z) ∙ ap (λ (m : ℕ). xs ++ replicate m z) f

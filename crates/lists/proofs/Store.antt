@@ -1,0 +1,90 @@
+-- Laws of a list kept in places: `padTo`, `content`, `stored` and `Stores`.
+use Prim.Native.Nat.{ℕ, suc, _+_, _-_, _≤_, _<_, min}
+use native.Mathlib.Omega.{arith}
+use mathlib.Core.Bool.{Bool, true}
+use mathlib.Core.List.{List, [], _∷_, _++_, append-assoc, map, map-append}
+use mathlib.Core.Path.{_≡_, refl, sym, ap, _∙_}
+use lib.ListN.{length, replicate, take, drop, set, getD, length-append, length-replicate, length-map, length-take, length-drop, take-append-drop, List·getD-map}
+use lib.Seq.{take-append-seam, drop-append-seam, set-append-seam, take-at, drop-at, length-take-le}
+use Rattle.lists.specs.Judge.{allOf}
+use Rattle.lists.specs.Store.{padTo, Rows, content, stored, Stores}
+use Rattle.lists.proofs.All.{All, all-append}
+
+module _ {A : Type 0} (k : ℕ) (z : A) where
+  pub padTo-length : (xs : List A) → length xs ≤ k → length (padTo k z xs) ≡ k
+  unfolding padTo
+  padTo-length xs h = simp (length-append, length-replicate) (omega arith)
+
+  -- the list is read back as the first places
+  pub padTo-take : (xs : List A) (n : ℕ) → length xs ≡ n → take n (padTo k z xs) ≡ xs
+  unfolding padTo
+  padTo-take xs n e = take-at xs (replicate (k - length xs) z) n e
+
+  pub padTo-drop : (xs : List A) (n : ℕ) → length xs ≡ n → drop n (padTo k z xs) ≡ replicate (k - n) z
+  unfolding padTo
+  padTo-drop xs n e = drop-at xs (replicate (k - length xs) z) n e ∙ ap (λ (m : ℕ). replicate (k - m) z) e
+
+  -- one more element goes into the first spare place
+  pub padTo-set : (xs : List A) (n : ℕ) (x : A) → length xs ≡ n → n < k → set (padTo k z xs) n x ≡ padTo k z (xs ++ (x ∷ []))
+  unfolding padTo
+  padTo-set xs n x f h =
+      let e : k - length xs ≡ suc (k - (length xs + 1)) = omega arith in
+      ap (λ (m : ℕ). set (xs ++ replicate m z) n x) e
+      ∙ ap (λ (m : ℕ). set (xs ++ (z ∷ replicate (k - (length xs + 1)) z)) m x) (sym f)
+      ∙ set-append-seam xs z (replicate (k - (length xs + 1)) z) x
+      ∙ sym (append-assoc xs (x ∷ []) (replicate (k - (length xs + 1)) z))
+      ∙ ap (λ (m : ℕ). (xs ++ (x ∷ [])) ++ replicate (k - m) z) (sym (length-append xs (x ∷ [])))
+
+  -- a list whose elements from n on are z is its first n, padded
+  pub padTo-split : (l : List A) (n : ℕ) → length l ≡ k → n ≤ k → drop n l ≡ replicate (k - n) z → l ≡ padTo k z (take n l)
+  unfolding padTo
+  padTo-split l n full h e =
+      let m : k - n ≡ k - length (take n l) = simp length-take (omega arith) in
+      sym (take-append-drop n l) ∙ ap (λ (t : List A). take n l ++ t) (e ∙ ap (λ (j : ℕ). replicate j z) m)
+
+map-read : {A B : Type 0} (read : B → A) (write : A → B) → ((x : A) → read (write x) ≡ x) → (xs : List A) → map read (map write xs) ≡ xs
+map-read read write back [] = refl
+map-read read write back (x ∷ xs) = rw (back x, map-read read write back xs)
+
+-- rows that are written of what they hold
+pub map-write : {A B : Type 0} (read : B → A) (write : A → B) (rows : List B) → All (λ (row : B). write (read row) ≡ row) rows → map write (map read rows) ≡ rows
+map-write read write [] h = refl
+map-write read write (row ∷ rows) h = rw (h .0, map-write read write rows (h .1))
+
+module _ {A : Type 0} (read : List ℕ → A) (write : A → List ℕ) (k width : ℕ) where
+  module _ (n : ℕ) (places : Rows) (s : Stores read write k width n places) where
+    abbrev held : List A
+    held = content read n places
+
+    pub stores-length : length places ≡ k
+    stores-length =
+        let few : length (map write held) ≤ k = simp (length-map, length-take) (omega (arith, s .few)) in
+        ap length (s .same) ∙ padTo-length k (replicate width 0) (map write held) few
+
+    pub content-length : length held ≡ n
+    content-length = simp (length-map, length-take) (omega (arith, s .few, stores-length))
+
+    rows-length : length (map write held) ≡ n
+    rows-length = length-map held write ∙ content-length
+
+    -- the rows of what is held
+    pub stores-rows : take n places ≡ map write held
+    stores-rows = ap (take n) (s .same) ∙ padTo-take k (replicate width 0) (map write held) n rows-length
+
+    pub stores-rest : drop n places ≡ replicate (k - n) (replicate width 0)
+    stores-rest = ap (drop n) (s .same) ∙ padTo-drop k (replicate width 0) (map write held) n rows-length
+
+    -- one more element, in the first spare place
+    pub stored-more : (x : A) → n < k → set places n (write x) ≡ stored write k width (held ++ (x ∷ []))
+    stored-more x h =
+        ap (λ (l : Rows). set l n (write x)) (s .same)
+        ∙ padTo-set k (replicate width 0) (map write held) n (write x) rows-length h
+        ∙ ap (padTo k (replicate width 0)) (sym (map-append write held (x ∷ [])))
+
+  -- what is stored is read back
+  module _ (back : (x : A) → read (write x) ≡ x) (xs : List A) (n : ℕ) (e : length xs ≡ n) where
+    pub content-stored : content read n (stored write k width xs) ≡ xs
+    content-stored = ap (map read) (padTo-take k (replicate width 0) (map write xs) n (length-map xs write ∙ e)) ∙ map-read read write back xs
+
+    pub stores-stored : n ≤ k → Stores read write k width n (stored write k width xs)
+    stores-stored h = record { few = h; same = ap (stored write k width) (sym content-stored) }
