@@ -1,23 +1,21 @@
 -- Laws of an area: rows and the entries in them, and what clearing leaves.
-use Prim.Native.Nat.{ℕ, zero, suc, _+_, _-_, _≤_, _<_}
+use Prim.Native.Nat.{ℕ, _-_, _≤_}
 use native.Mathlib.Omega.{arith}
-use mathlib.Core.Bool.{Bool, true, false, _&&_}
+use mathlib.Core.Bool.{true, _&&_}
 use mathlib.Core.List.{List, [], _∷_, _++_, map}
 use mathlib.Core.Path.{_≡_, refl, sym, ap, _∙_}
 use lib.Dec.{leb, eqb}
-use lib.ListN.{length, replicate, take, drop, getD, length-map, length-drop}
-use lib.Seq.{ext-getD, length-take-le}
+use lib.ListN.{length, replicate, take, drop, getD, length-map}
+use lib.Seq.{length-take-le}
 use borrow.Author.Tests.{leb-true, eqb-true}
 use Rattle.lists.specs.Judge.{allOf, chain}
 use Rattle.lists.specs.Keep.{keep}
-use Rattle.lists.specs.Store.{padTo, Rows, content, stored, Stores}
-use Rattle.lists.proofs.All.{all-map, all-map₂, all-take, all-drop, all-replicate}
+use Rattle.lists.specs.Store.{Rows}
 use Rattle.lists.proofs.Array.{Shaped}
 use Rattle.lists.proofs.Bools.{and-left, and-right}
 use Rattle.lists.proofs.InPlace.{padded-part}
-use Rattle.lists.proofs.Judge.{allOf-all, allOf-map, chain-map}
-use Rattle.lists.proofs.Keep.{keep-map}
-use Rattle.lists.proofs.Store.{padTo-split, map-write, stores-length, stores-rows, stores-rest}
+use Rattle.lists.proofs.Judge.{allOf-map, chain-map}
+use Rattle.lists.proofs.Store.{stores-length, stores-rest, stores-keep, row-listed, stores-judged}
 use Rattle.pairing.specs.declared.Numbered.{Numbered}
 use Rattle.journal.specs.declared.Gate.{Gate}
 use Rattle.journal.specs.declared.Journal.{Journal}
@@ -33,18 +31,7 @@ held-row x = refl
 -- a row of five numbers is the row of the entry that it holds
 pub row-held : (row : List ℕ) → length row ≡ 5 → rowOf (heldIn row) ≡ row
 unfolding heldIn rowOf
-row-held row e = sym (ext-getD 0 row (getD row 0 0 ∷ getD row 1 0 ∷ getD row 2 0 ∷ getD row 3 0 ∷ getD row 4 0 ∷ []) e (λ i h. at i (omega arith)))
-  where
-    none : (i : ℕ) → suc (suc (suc (suc (suc i)))) < 5 → ⊥
-    none i h = omega arith
-
-    at : (i : ℕ) → i < 5 → getD row i 0 ≡ getD (getD row 0 0 ∷ getD row 1 0 ∷ getD row 2 0 ∷ getD row 3 0 ∷ getD row 4 0 ∷ []) i 0
-    at zero h = refl
-    at (suc zero) h = refl
-    at (suc (suc zero)) h = refl
-    at (suc (suc (suc zero))) h = refl
-    at (suc (suc (suc (suc zero)))) h = refl
-    at (suc (suc (suc (suc (suc i))))) h = absurd (none i h)
+row-held row e = row-listed 5 row e
 
 -- a row of five numbers that holds zeros is the row of zeros
 blank-row : (row : List ℕ) → length row ≡ 5 → isBlank (heldIn row) ≡ true → row ≡ replicate 5 0
@@ -76,37 +63,13 @@ sound-rows own other area rows =
 pub sound-holds : (own : Journal) (other : Gate) (area : Area) (rows : Rows) → Shaped places 5 rows → soundArea own other area rows ≡ true → Holds area rows
 unfolding soundArea
 sound-holds own other area rows shaped e =
-    let n = area .count in
-    let few = leb-true n places (and-left _ _ e) in
-    let e1 = and-right (leb n places) _ e in
-    let e2 = and-right (allOf (soundEntry own other) (held area rows)) _ e1 in
-    let spare = and-right (chain follows (held area rows)) _ e2 in
-    let blanks = allOf-all (λ (row : List ℕ). isBlank (heldIn row)) (drop n rows) (sym (allOf-map heldIn isBlank (drop n rows)) ∙ spare) in
-    let zeros = all-replicate (replicate 5 0) (drop n rows)
-    (all-map₂ (λ (row : List ℕ). length row ≡ 5) (λ (row : List ℕ). isBlank (heldIn row) ≡ true) (λ (row : List ℕ). row ≡ replicate 5 0) blank-row (drop n rows)
-    (all-drop (λ (row : List ℕ). length row ≡ 5) n rows (shaped .wide)) blanks) in
-    let gap : length (drop n rows) ≡ places - n = length-drop n rows ∙ ap (λ (m : ℕ). m - n) (shaped .full) in
-    record {
-      few = few;
-      same = padTo-split places (replicate 5 0) rows n (shaped .full) few (zeros ∙ ap (λ (m : ℕ). replicate m (replicate 5 0)) gap)
-          ∙ ap (padTo places (replicate 5 0)) (sym (map-write heldIn rowOf (take n rows)
-          (all-map (λ (row : List ℕ). length row ≡ 5) (λ (row : List ℕ). rowOf (heldIn row) ≡ row) row-held (take n rows) (all-take (λ (row : List ℕ). length row ≡ 5) n rows (shaped .wide)))));
-    }
+    let rest = and-right (leb (area .count) places) _ e in
+    let spare = and-right (chain follows (held area rows)) _ (and-right (allOf (soundEntry own other) (held area rows)) _ rest) in
+    stores-judged heldIn rowOf places 5 isBlank row-held blank-row (area .count) rows shaped (leb-true (area .count) places (and-left _ _ e)) spare
 
 module _ (area : Area) (rows : Rows) (h : Holds area rows) where
   pub holds-length : length rows ≡ places
   holds-length = stores-length heldIn rowOf places 5 (area .count) rows h
-
-  -- a test of rows that is one of the entries in them keeps the rows of the entries that pass
-  pub keep-rows : (p : Numbered → Bool) → keep (λ (row : List ℕ). p (heldIn row)) (take (area .count) rows) ≡ map rowOf (keep p (held area rows))
-  keep-rows p =
-      ap (keep (λ (row : List ℕ). p (heldIn row))) (stores-rows heldIn rowOf places 5 (area .count) rows h)
-      ∙ keep-map (λ (row : List ℕ). p (heldIn row)) rowOf (held area rows)
-      ∙ ap (map rowOf) (same (held area rows))
-    where
-      same : (xs : List Numbered) → keep (λ (x : Numbered). p (heldIn (rowOf x))) xs ≡ keep p xs
-      same [] = refl
-      same (x ∷ xs) = rw (held-row x, same xs)
 
   -- the squeezed rows, with zeros behind them, store what is wanted
   pub cleared : (gate : Gate) (kept : ℕ) (squeezed left : Rows) → kept ≤ area .count → take kept squeezed ≡ keep (λ (row : List ℕ). wanted gate (heldIn row .entry)) (take (area .count) rows)
@@ -115,7 +78,7 @@ module _ (area : Area) (rows : Rows) (h : Holds area rows) where
       → (record { count = kept } ≡ areaOf (wantedBy gate (held area rows))) × (left ≡ rowsOf (wantedBy gate (held area rows)))
   cleared gate kept squeezed left few front back long e =
       let xs = wantedBy gate (held area rows) in
-      let rows-are : take kept squeezed ≡ map rowOf xs = front ∙ keep-rows (λ (x : Numbered). wanted gate (x .entry)) in
+      let rows-are : take kept squeezed ≡ map rowOf xs = front ∙ stores-keep heldIn rowOf places 5 (area .count) rows h held-row (λ (x : Numbered). wanted gate (x .entry)) in
       let n : kept ≡ length xs = sym (length-take-le kept squeezed (omega (arith, h .few))) ∙ ap length rows-are ∙ length-map xs rowOf in (
         ap (λ (m : ℕ). record { count = m }) n,
         e

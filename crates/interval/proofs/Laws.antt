@@ -49,6 +49,11 @@ pub meeting-start : (i j : Interval) → i .start ≤ meetingOf i j .start
 unfolding meetingOf
 meeting-start i j = omega arith
 
+-- it starts no earlier with an interval that starts no earlier
+pub meeting-later : (i j k : Interval) → j .start ≤ k .start → meetingOf i j .start ≤ meetingOf i k .start
+unfolding meetingOf
+meeting-later i j k h = omega arith
+
 -- an interval that has ended when the other starts does not meet it
 pub meeting-ended : (i j : Interval) → i .end ≤ j .start → properOf (meetingOf i j) ≡ false
 unfolding meetingOf properOf

@@ -6,10 +6,11 @@ use native.Mathlib.Numerals.{add-one}
 use mathlib.Core.Bool.{Bool, true, false, _&&_, and-assoc, and-true, and-false, false≢true}
 use mathlib.Core.List.{List, [], _∷_, _++_, map}
 use mathlib.Core.Path.{_≡_, refl, sym, ap, _∙_}
+use lib.Dec.{leb}
 use lib.ListN.{length, take, drop, getD, length-take}
 use lib.Seq.{slice, slice-cons, take-suc, drop-append-le}
+use borrow.Author.Tests.{leb-true, leb-false}
 use Rattle.lists.specs.Judge.{allOf, chainFrom, chain}
-use Rattle.lists.specs.Keep.{keep}
 use Rattle.lists.proofs.All.{All, Each, all-map}
 use Rattle.lists.proofs.Bools.{and-left, and-right}
 
@@ -79,6 +80,14 @@ module _ {A : Type 0} where
   chain-short r [] (suc n) h = refl
   chain-short r (x ∷ l) (suc zero) h = refl
   chain-short r (x ∷ l) (suc (suc n)) h = absurd (not-suc-le-zero (le-of-suc-le-suc h))
+
+  -- at the end of a loop from 1 on, i is n or there is at most one element
+  pub chain-end : (r : A → A → Bool) (l : List A) (n i : ℕ) → n ≤ i → i ≤ max 1 n → chain r (take i l) ≡ true → chain r (take n l) ≡ true
+  chain-end r l n i h k e = go (leb n 1) refl
+    where
+      go : (b : Bool) → leb n 1 ≡ b → chain r (take n l) ≡ true
+      go true f = chain-short r l n (leb-true n 1 f)
+      go false f = let same : n ≡ i = omega (arith, leb-false n 1 f) in rw same e
 
   -- where the test is transitive, neighbours in order are all in order
   module _ (r : A → A → Bool) (trans : (x y z : A) → r x y ≡ true → r y z ≡ true → r x z ≡ true) where

@@ -1,15 +1,15 @@
 -- Laws of `keep` and `tally`.
-use Prim.Native.Nat.{ℕ, suc, _+_, _≤_, _<_}
+use Prim.Native.Nat.{ℕ, suc, _+_, _-_, _≤_, _<_}
 use native.Mathlib.Numerals.{add-one}
 use native.Mathlib.Omega.{arith}
 use mathlib.Core.Bool.{Bool, true, false, cond, true≢false, Bool-discrete}
 use mathlib.Core.List.{List, [], _∷_, _++_, append-nil, map, flatMap, filter, Perm, Perm·filter}
 use mathlib.Core.Logic.{ite}
 use mathlib.Core.Path.{_≡_, refl, sym, ap, _∙_}
-use lib.ListN.{length, take, getD, length-take}
-use lib.Seq.{take-suc}
+use lib.ListN.{length, take, drop, getD, length-take, length-append}
+use lib.Seq.{take-suc, take-add}
 use Rattle.lists.specs.Keep.{keep, tally}
-use Rattle.lists.proofs.All.{All}
+use Rattle.lists.proofs.All.{All, Each}
 
 module _ {A : Type 0} (p : A → Bool) where
   pub keep-append : (xs ys : List A) → keep p (xs ++ ys) ≡ keep p xs ++ keep p ys
@@ -50,6 +50,18 @@ module _ {A : Type 0} (p : A → Bool) where
   pub keep-bound : (l : List A) (i : ℕ) → length (keep p (take i l)) ≤ i
   keep-bound l i = omega (arith, keep-length (take i l), length-take i l)
 
+  -- fewer elements looked at, no more kept
+  pub keep-fewer : (l : List A) (i n : ℕ) → i ≤ n → length (keep p (take i l)) ≤ length (keep p (take n l))
+  keep-fewer l i n h =
+      let up : i + (n - i) ≡ n = omega arith in
+      let cut : take n l ≡ take i l ++ take (n - i) (drop i l) = ap (λ (m : ℕ). take m l) (sym up) ∙ take-add i (n - i) l in
+      omega (
+        arith,
+        ap (λ (t : List A). length (keep p t)) cut,
+        ap length (keep-append (take i l) (take (n - i) (drop i l))),
+        length-append (keep p (take i l)) (keep p (take (n - i) (drop i l))),
+      )
+
   -- mathlib's filter, by the decision that the test is true
   keep-filter : (xs : List A) → keep p xs ≡ filter {p = λ (x : A). p x ≡ true} (λ x. Bool-discrete (p x) true) xs
   keep-filter [] = refl
@@ -77,6 +89,27 @@ module _ {A : Type 0} (p : A → Bool) where
       go : (b : Bool) → tally p (xs ++ ys) ≡ tally p xs + tally p ys → cond b (suc (tally p (xs ++ ys))) (tally p (xs ++ ys)) ≡ cond b (suc (tally p xs)) (tally p xs) + tally p ys
       go true e = omega arith
       go false e = e
+
+module _ {A : Type 0} where
+  pub keep-same-test : (p q : A → Bool) → ((x : A) → p x ≡ q x) → (xs : List A) → keep p xs ≡ keep q xs
+  keep-same-test p q h [] = refl
+  keep-same-test p q h (x ∷ xs) = rw (h x, keep-same-test p q h xs)
+
+  pub all-keep : (P : A → Type 0) (p : A → Bool) (xs : List A) → All P xs → All P (keep p xs)
+  all-keep P p [] h = tt
+  all-keep P p (x ∷ xs) h = go (p x) (all-keep P p xs (h .1))
+    where
+      go : (b : Bool) → All P (keep p xs) → All P (cond b (x ∷ keep p xs) (keep p xs))
+      go true i = (h .0, i)
+      go false i = i
+
+  pub each-keep : (R : A → A → Type 0) (p : A → Bool) (xs : List A) → Each R xs → Each R (keep p xs)
+  each-keep R p [] h = tt
+  each-keep R p (x ∷ xs) h = go (p x) (each-keep R p xs (h .1))
+    where
+      go : (b : Bool) → Each R (keep p xs) → Each R (cond b (x ∷ keep p xs) (keep p xs))
+      go true i = (all-keep (R x) p xs (h .0), i)
+      go false i = i
 
 pub keep-map : {A B : Type 0} (p : B → Bool) (f : A → B) (xs : List A) → keep p (map f xs) ≡ map f (keep (λ (x : A). p (f x)) xs)
 keep-map p f [] = refl

@@ -9,3 +9,5 @@ pub mod Judge
 pub mod Store
 pub mod Array
 pub mod InPlace
+pub mod Merge
+pub mod First

@@ -1,8 +1,11 @@
 -- Laws of `insertBy`, `insertAllBy` and `sortBy`.
+use Prim.Native.Nat.{ℕ, suc, _+_}
+use native.Mathlib.Omega.{arith}
 use mathlib.Core.Bool.{Bool, true, false, cond, true≢false}
 use mathlib.Core.List.{List, [], _∷_, _++_, append-nil, Perm, Perm·refl, Perm·cons, Perm·swap, Perm·trans, Perm·append-left, perm-middle}
 use mathlib.Core.Logic.{_⊎_, inl, inr}
 use mathlib.Core.Path.{_≡_, refl, sym, ap, _∙_}
+use lib.ListN.{length}
 use Rattle.lists.specs.Sort.{insertBy, insertAllBy, sortBy}
 use Rattle.lists.proofs.All.{All, Each, all-any, all-map, all-map₂}
 use Rattle.lists.proofs.Order.{StrictOrder, Apart, Ascending}
@@ -11,6 +14,18 @@ module _ {A : Type 0} (before : A → A → Bool) where
   pub insertAllBy-append : (xs ys l : List A) → insertAllBy before (xs ++ ys) l ≡ insertAllBy before ys (insertAllBy before xs l)
   insertAllBy-append [] ys l = refl
   insertAllBy-append (x ∷ xs) ys l = insertAllBy-append xs ys (insertBy before x l)
+
+  pub insertBy-length : (x : A) (l : List A) → length (insertBy before x l) ≡ suc (length l)
+  insertBy-length x [] = refl
+  insertBy-length x (y ∷ l) = go (before x y) (insertBy-length x l)
+    where
+      go : (b : Bool) → length (insertBy before x l) ≡ suc (length l) → length (cond b (x ∷ y ∷ l) (y ∷ insertBy before x l)) ≡ suc (suc (length l))
+      go true e = refl
+      go false e = ap suc e
+
+  pub insertAllBy-length : (xs l : List A) → length (insertAllBy before xs l) ≡ length xs + length l
+  insertAllBy-length [] l = omega arith
+  insertAllBy-length (x ∷ xs) l = omega (arith, insertAllBy-length xs (insertBy before x l), insertBy-length x l)
 
   -- every element is kept, as often as it stands there
   insertBy-perm : (x : A) (l : List A) → Perm (insertBy before x l) (x ∷ l)
@@ -53,7 +68,7 @@ module _ {A : Type 0} (before : A → A → Bool) (strict : StrictOrder before) 
   insertBy-comm x y (inl h) l = insertBy-swap x y h l
   insertBy-comm x y (inr h) l = sym (insertBy-swap y x h l)
 
-  insertBy-past : (x : A) (ys l : List A) → All (Apart before x) ys → insertAllBy before ys (insertBy before x l) ≡ insertBy before x (insertAllBy before ys l)
+  pub insertBy-past : (x : A) (ys l : List A) → All (Apart before x) ys → insertAllBy before ys (insertBy before x l) ≡ insertBy before x (insertAllBy before ys l)
   insertBy-past x [] l h = refl
   insertBy-past x (y ∷ ys) l h = ap (insertAllBy before ys) (sym (insertBy-comm x y (h .0) l)) ∙ insertBy-past x ys (insertBy before y l) (h .1)
 

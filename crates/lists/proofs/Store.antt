@@ -1,14 +1,18 @@
 -- Laws of a list kept in places: `padTo`, `content`, `stored` and `Stores`.
-use Prim.Native.Nat.{ℕ, suc, _+_, _-_, _≤_, _<_, min}
+use Prim.Native.Nat.{ℕ, zero, suc, _+_, _-_, _≤_, _<_, min}
 use native.Mathlib.Omega.{arith}
 use mathlib.Core.Bool.{Bool, true}
 use mathlib.Core.List.{List, [], _∷_, _++_, append-assoc, map, map-append}
 use mathlib.Core.Path.{_≡_, refl, sym, ap, _∙_}
-use lib.ListN.{length, replicate, take, drop, set, getD, length-append, length-replicate, length-map, length-take, length-drop, take-append-drop, List·getD-map}
+use lib.ListN.{length, replicate, take, drop, set, getD, length-append, length-replicate, length-map, length-take, length-drop, take-append-drop}
 use lib.Seq.{take-append-seam, drop-append-seam, set-append-seam, take-at, drop-at, length-take-le}
 use Rattle.lists.specs.Judge.{allOf}
+use Rattle.lists.specs.Keep.{keep}
 use Rattle.lists.specs.Store.{padTo, Rows, content, stored, Stores}
-use Rattle.lists.proofs.All.{All, all-append}
+use Rattle.lists.proofs.All.{All, all-map, all-map₂, all-take, all-drop, all-replicate}
+use Rattle.lists.proofs.Array.{Shaped}
+use Rattle.lists.proofs.Judge.{allOf-all, allOf-map}
+use Rattle.lists.proofs.Keep.{keep-map, keep-same-test}
 
 module _ {A : Type 0} (k : ℕ) (z : A) where
   pub padTo-length : (xs : List A) → length xs ≤ k → length (padTo k z xs) ≡ k
@@ -81,6 +85,13 @@ module _ {A : Type 0} (read : List ℕ → A) (write : A → List ℕ) (k width 
         ∙ padTo-set k (replicate width 0) (map write held) n (write x) rows-length h
         ∙ ap (padTo k (replicate width 0)) (sym (map-append write held (x ∷ [])))
 
+    -- a test of what rows hold keeps the rows of what passes
+    pub stores-keep : ((x : A) → read (write x) ≡ x) → (p : A → Bool) → keep (λ (row : List ℕ). p (read row)) (take n places) ≡ map write (keep p held)
+    stores-keep back p =
+        ap (keep (λ (row : List ℕ). p (read row))) stores-rows
+        ∙ keep-map (λ (row : List ℕ). p (read row)) write held
+        ∙ ap (map write) (keep-same-test (λ (x : A). p (read (write x))) p (λ x. ap p (back x)) held)
+
   -- what is stored is read back
   module _ (back : (x : A) → read (write x) ≡ x) (xs : List A) (n : ℕ) (e : length xs ≡ n) where
     pub content-stored : content read n (stored write k width xs) ≡ xs
@@ -88,3 +99,42 @@ module _ {A : Type 0} (read : List ℕ → A) (write : A → List ℕ) (k width 
 
     pub stores-stored : n ≤ k → Stores read write k width n (stored write k width xs)
     stores-stored h = record { few = h; same = ap (stored write k width) (sym content-stored) }
+
+-- ---- rows of a given width
+
+-- the numbers that f gives, from 0 on
+abbrev listed : ℕ → (ℕ → ℕ) → List ℕ
+listed zero f = []
+listed (suc n) f = f 0 ∷ listed n (λ i. f (suc i))
+
+-- a row is its numbers
+pub row-listed : (width : ℕ) (row : List ℕ) → length row ≡ width → listed width (λ i. getD row i 0) ≡ row
+row-listed zero [] e = refl
+row-listed zero (x ∷ row) e = absurd (never (length row) e)
+  where
+    never : (n : ℕ) → suc n ≡ 0 → ⊥
+    never n e = omega arith
+row-listed (suc width) [] e = absurd (never width e)
+  where
+    never : (n : ℕ) → 0 ≡ suc n → ⊥
+    never n e = omega arith
+row-listed (suc width) (x ∷ row) e = ap {B = List ℕ} (λ l. x ∷ l) (row-listed width row (shorter (length row) width e))
+  where
+    shorter : (m n : ℕ) → suc m ≡ suc n → m ≡ n
+    shorter m n e = omega arith
+
+-- places of the right shape whose spare rows hold blanks store what the others hold
+pub stores-judged : {A : Type 0} (read : List ℕ → A) (write : A → List ℕ) (k width : ℕ) (isBlank : A → Bool) → ((row : List ℕ) → length row ≡ width → write (read row) ≡ row)
+    → ((row : List ℕ) → length row ≡ width → isBlank (read row) ≡ true → row ≡ replicate width 0)
+    → (n : ℕ) (places : Rows) → Shaped k width places → n ≤ k → allOf isBlank (map read (drop n places)) ≡ true → Stores read write k width n places
+stores-judged read write k width isBlank whole zeros n places shaped few spare =
+    let wide : List ℕ → Type 0 = λ row. length row ≡ width in
+    let blanks = allOf-all (λ (row : List ℕ). isBlank (read row)) (drop n places) (sym (allOf-map read isBlank (drop n places)) ∙ spare) in
+    let rest = all-replicate (replicate width 0) (drop n places)
+    (all-map₂ wide (λ (row : List ℕ). isBlank (read row) ≡ true) (λ (row : List ℕ). row ≡ replicate width 0) zeros (drop n places) (all-drop wide n places (shaped .wide)) blanks) in
+    let gap : length (drop n places) ≡ k - n = length-drop n places ∙ ap (λ (m : ℕ). m - n) (shaped .full) in
+    record {
+      few = few;
+      same = padTo-split k (replicate width 0) places n (shaped .full) few (rest ∙ ap (λ (m : ℕ). replicate m (replicate width 0)) gap)
+          ∙ ap (padTo k (replicate width 0)) (sym (map-write read write (take n places) (all-map wide (λ (row : List ℕ). write (read row) ≡ row) whole (take n places) (all-take wide n places (shaped .wide)))));
+    }

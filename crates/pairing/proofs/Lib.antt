@@ -1,3 +1,4 @@
 pub mod Pairs
 pub mod Plain
+pub mod Arrival
 pub mod Unique

@@ -1,17 +1,21 @@
 -- Laws of the pairing test, of the pair and of the order of pairs. Nothing above this file looks into `fits`, `pairs`, `pairOf` or `comesBefore`.
-use Prim.Native.Nat.{ℕ, _<_, _≤_}
-use mathlib.Core.Bool.{Bool, true, false, _&&_, and-false}
+use Prim.Native.Nat.{ℕ, _-_, _<_, _≤_, min, max}
+use native.Mathlib.Omega.{arith}
+use mathlib.Core.Bool.{Bool, true, false, _&&_, and-false, true≢false}
 use mathlib.Core.Path.{_≡_, refl, sym, ap, _∙_}
+use lib.Dec.{leb, eqb}
+use borrow.Author.Tests.{eqb-true, eq-eqb}
 use Rattle.interval.specs.declared.Interval.{Interval}
 use Rattle.interval.specs.Interval.{holdsAt, properOf, meetingOf}
 use Rattle.interval.proofs.Laws.{holds-proper, meeting-holds, meeting-comm, meeting-start, meeting-ended}
 use Rattle.lists.proofs.Bools.{and-left, and-right, bool-ext}
-use Rattle.lists.proofs.Order.{StrictOrder, Apart, strict-ascending, strict-neither, ascending-more, apart-here, apart-next}
+use Rattle.lists.proofs.Order.{StrictOrder, Apart, Compared, less, equal, more, compared, strict-ascending, strict-neither, ascending-less, ascending-equal, ascending-more, apart-here, apart-next}
 use Rattle.pairing.specs.declared.Entry.{Entry}
 use Rattle.pairing.specs.declared.Numbered.{Numbered}
 use Rattle.pairing.specs.declared.Pair.{Pair}
 use Rattle.pairing.specs.declared.Rule.{Rule}
-use Rattle.pairing.specs.Rule.{fits}
+use Rattle.pairing.specs.declared.Rule.the-variants.{Equal, Near, Every}
+use Rattle.pairing.specs.Rule.{distance, fits}
 use Rattle.pairing.specs.Pair.{pairs, partnerOf, pairOf, comesBefore}
 use Rattle.pairing.specs.Plain.{matchAt}
 
@@ -65,6 +69,24 @@ module _ (rule : Rule) (a b : Entry) where
             at-met,
           )
 
+-- to pair is the same either way round
+fits-comm : (rule : Rule) (key other : ℕ) → fits rule key other ≡ fits rule other key
+unfolding fits distance
+fits-comm Equal key other = bool-ext (eqb key other) (eqb other key) (λ e. eq-eqb other key (sym (eqb-true key other e))) (λ e. eq-eqb key other (sym (eqb-true other key e)))
+fits-comm (Near width) key other =
+    let e : max key other - min key other ≡ max other key - min other key = omega arith in
+    ap (λ (n : ℕ). leb n width) e
+fits-comm Every key other = refl
+
+pub pairs-comm : (rule : Rule) (a b : Entry) → pairs rule a b ≡ pairs rule b a
+unfolding pairs
+pairs-comm rule a b = rw (meeting-comm (a .span) (b .span), fits-comm rule (a .key) (b .key)) (turn (properOf (a .span)) (properOf (b .span)) _)
+  where
+    turn : (x y z : Bool) → x && (y && z) ≡ y && (x && z)
+    turn true y z = refl
+    turn false true z = refl
+    turn false false z = refl
+
 -- ---- the pair
 
 module _ (a b : Numbered) where
@@ -94,3 +116,39 @@ apart-a p q n = apart-next _ _ p q (apart-here _ _ p q n)
 pub apart-b : (p q : Pair) → (p .b .ordinal ≡ q .b .ordinal → ⊥) → Apart comesBefore p q
 unfolding comesBefore
 apart-b p q n = apart-next _ _ p q (apart-next _ _ p q (apart-here _ _ p q n))
+
+-- what comes before starts no later
+pub before-start : (p q : Pair) → comesBefore p q ≡ true → p .meeting .start ≤ q .meeting .start
+unfolding comesBefore
+before-start p q e = go (compared (p .meeting .start) (q .meeting .start))
+  where
+    go : Compared (p .meeting .start) (q .meeting .start) → p .meeting .start ≤ q .meeting .start
+    go (less l) = omega arith
+    go (equal f) = omega arith
+    go (more g) = absurd (true≢false (sym e ∙ ascending-more _ _ p q g))
+
+-- a later start and a higher ordinal on one side come later
+module _ (p q : Pair) (later : p .meeting .start ≤ q .meeting .start) where
+  pub before-by-a : p .a .ordinal < q .a .ordinal → comesBefore p q ≡ true
+  unfolding comesBefore
+  before-by-a h = go (compared (p .meeting .start) (q .meeting .start))
+    where
+      go : Compared (p .meeting .start) (q .meeting .start) → comesBefore p q ≡ true
+      go (less l) = ascending-less _ _ p q l
+      go (equal e) = ascending-equal _ _ p q e ∙ ascending-less _ _ p q h
+      go (more g) = absurd (never g)
+        where
+          never : q .meeting .start < p .meeting .start → ⊥
+          never g = omega arith
+
+  pub before-by-b : p .a .ordinal ≡ q .a .ordinal → p .b .ordinal < q .b .ordinal → comesBefore p q ≡ true
+  unfolding comesBefore
+  before-by-b same h = go (compared (p .meeting .start) (q .meeting .start))
+    where
+      go : Compared (p .meeting .start) (q .meeting .start) → comesBefore p q ≡ true
+      go (less l) = ascending-less _ _ p q l
+      go (equal e) = ascending-equal _ _ p q e ∙ ascending-equal _ _ p q same ∙ ascending-less _ _ p q h
+      go (more g) = absurd (never g)
+        where
+          never : q .meeting .start < p .meeting .start → ⊥
+          never g = omega arith

@@ -6,6 +6,7 @@ use Rattle.pairing.proofs.Rule.pairs.Reads as pairs
 use Rattle.pairing.proofs.Numbered.partner.Reads as partner
 use Rattle.pairing.proofs.Pair.of.Reads as of
 use Rattle.pairing.proofs.Pair.comes_before.Reads as comes-before
+use Rattle.pairing.proofs.Side.pair.Reads as pair
 
 one-fits : OneResult fits.Post
 one-fits = one-by-equation _ _
@@ -21,3 +22,6 @@ one-of = one-by-equation _ _
 
 one-comes-before : OneResult comes-before.Post
 one-comes-before = one-by-equation _ _
+
+one-pair : OneResult pair.Post
+one-pair = one-by-equation _ _

@@ -1,3 +1,4 @@
 pub mod Rule
 pub mod Pair
 pub mod Plain
+pub mod Side

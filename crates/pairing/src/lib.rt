@@ -3,6 +3,7 @@ use interval::Interval;
 ghost use mathlib.Core.Path.{_≡_};
 ghost use Rattle.pairing.specs.Pair.{pairs, partnerOf, pairOf, comesBefore};
 ghost use Rattle.pairing.specs.Rule.{distance, fits};
+ghost use Rattle.pairing.specs.Side.{pairFrom};
 
 // What a journal says from the start of the span up to its end.
 pub struct Entry {
@@ -15,6 +16,12 @@ pub struct Entry {
 pub struct Numbered {
     pub entry: Entry,
     pub ordinal: u32,
+}
+
+// Of which journal.
+pub enum Side {
+    A,
+    B,
 }
 
 // Which keys pair.
@@ -110,5 +117,17 @@ impl Pair {
             return self.a.ordinal < other.a.ordinal;
         }
         self.b.ordinal < other.b.ordinal
+    }
+}
+
+impl Side {
+    // The pair of an entry of this side and one of the other.
+    pub fn pair(self, x: Numbered, other: Numbered) -> Pair
+        ensures { λ r. ⌜ r ≡ pairFrom self x other ⌝ }
+    {
+        match self {
+            Side::A => Pair::of(x, other),
+            Side::B => Pair::of(other, x),
+        }
     }
 }

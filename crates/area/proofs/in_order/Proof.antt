@@ -6,23 +6,14 @@ use mathlib.Core.Bool.{Bool, true, false}
 use mathlib.Core.List.{List, []}
 use mathlib.Core.Path.{_≡_, refl, sym, ap, _∙_}
 use lib.ListN.{length, take, drop, getD}
-use lib.Dec.{leb}
-use borrow.Author.Tests.{not-true, not-false, leb-true, leb-false}
+use borrow.Author.Tests.{not-true, not-false}
 use lib.Seq.{getD-take, length-take-le}
 use Rattle.lists.specs.Judge.{chain}
-use Rattle.lists.proofs.Judge.{chain-more, chain-fails, chain-short}
+use Rattle.lists.proofs.Judge.{chain-more, chain-fails, chain-short, chain-end}
 use Rattle.pairing.specs.declared.Numbered.{Numbered}
 use Rattle.area.specs.Area.{heldIn, follows}
 use Rattle.area.proofs.in_order.Statement.{statement}
 use Rattle.area.proofs.in_order.Tie as tie
-
--- at the end of the loop, i is n or there is at most one entry
-at-end : (r : List ℕ → List ℕ → Bool) (rows : List (List ℕ)) (n i : ℕ) → n ≤ i → i ≤ max 1 n → chain r (take i rows) ≡ true → chain r (take n rows) ≡ true
-at-end r rows n i h k e = go (leb n 1) refl
-  where
-    go : (b : Bool) → leb n 1 ≡ b → chain r (take n rows) ≡ true
-    go true f = chain-short r rows n (leb-true n 1 f)
-    go false f = let same : n ≡ i = omega (arith, leb-false n 1 f) in rw same e
 
 abbrev Inv-loop : tie.InvT-loop
 Inv-loop rows n i₀ i = (1 ≤ i) × (i ≤ max 1 n) × (chain (λ (x y : List ℕ). follows (heldIn x) (heldIn y)) (take i rows) ≡ true)
@@ -91,7 +82,7 @@ returns-2 c =
     let s = c .before in
     let st = s .before in
     let rows = st .args .rows .now in
-    sym (at-end (λ (x y : List ℕ). follows (heldIn x) (heldIn y)) rows (st .args .n) (s .loop .i) (omega arith) (omega arith) (s .loop .inv .2))
+    sym (chain-end (λ (x y : List ℕ). follows (heldIn x) (heldIn y)) rows (st .args .n) (s .loop .i) (omega arith) (omega arith) (s .loop .inv .2))
 
 pub in-order-spec : {M : Type 1} → statement M
 in-order-spec =

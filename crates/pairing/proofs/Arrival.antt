@@ -1,0 +1,71 @@
+-- Laws of the pairs that an entry of one side makes with entries of the other.
+use Prim.Native.Nat.{ℕ, _<_, _≤_}
+use mathlib.Core.Bool.{Bool, true, false, cond}
+use mathlib.Core.List.{List, [], _∷_, _++_, append-nil, map, flatMap}
+use mathlib.Core.Path.{_≡_, refl, sym, ap, _∙_}
+use Rattle.interval.specs.Interval.{meetingOf}
+use Rattle.interval.proofs.Laws.{meeting-comm, meeting-later}
+use Rattle.lists.specs.Keep.{keep}
+use Rattle.lists.proofs.All.{Each, each-mapped}
+use Rattle.lists.proofs.Keep.{each-keep}
+use Rattle.lists.proofs.Order.{Ascending}
+use Rattle.pairing.specs.declared.Entry.{Entry}
+use Rattle.pairing.specs.declared.Numbered.{Numbered}
+use Rattle.pairing.specs.declared.Pair.{Pair}
+use Rattle.pairing.specs.declared.Rule.{Rule}
+use Rattle.pairing.specs.declared.Side.{Side}
+use Rattle.pairing.specs.declared.Side.the-variants.{A, B}
+use Rattle.pairing.specs.Pair.{pairs, pairOf, comesBefore}
+use Rattle.pairing.specs.Plain.{coupleThat, couplesThat}
+use Rattle.pairing.specs.Side.{pairFrom, newPairs}
+use Rattle.pairing.proofs.Pairs.{pairs-comm, pair-meeting, pair-ordinal-a, pair-ordinal-b, before-by-a, before-by-b}
+
+-- the entries that pair with x
+abbrev pub pairing : Rule → Numbered → Numbered → Bool
+pairing rule x y = pairs rule (x .entry) (y .entry)
+
+-- the new pairs are those with each entry that pairs, in the order of those entries
+pub newPairs-map : (rule : Rule) (side : Side) (x : Numbered) (others : List Numbered) → newPairs rule side x others ≡ map (pairFrom side x) (keep (pairing rule x) others)
+unfolding couplesThat flatMap coupleThat
+newPairs-map rule A x others = append-nil (flatMap (coupleThat (pairs rule) x) others) ∙ row others
+  where
+    row : (ys : List Numbered) → flatMap (coupleThat (pairs rule) x) ys ≡ map (pairOf x) (keep (pairing rule x) ys)
+    row [] = refl
+    row (y ∷ ys) = ap (λ (l : List Pair). cond (pairing rule x y) (pairOf x y ∷ []) [] ++ l) (row ys) ∙ go (pairing rule x y)
+      where
+        go : (b : Bool) → cond b (pairOf x y ∷ []) [] ++ map (pairOf x) (keep (pairing rule x) ys) ≡ map (pairOf x) (cond b (y ∷ keep (pairing rule x) ys) (keep (pairing rule x) ys))
+        go true = refl
+        go false = refl
+newPairs-map rule B x others = column others
+  where
+    column : (ys : List Numbered) → flatMap (λ (y : Numbered). flatMap (coupleThat (pairs rule) y) (x ∷ [])) ys ≡ map (λ (y : Numbered). pairOf y x) (keep (pairing rule x) ys)
+    column [] = refl
+    column (y ∷ ys) =
+        ap (λ (l : List Pair). (cond (pairs rule (y .entry) (x .entry)) (pairOf y x ∷ []) [] ++ []) ++ l) (column ys)
+        ∙ ap (λ (b : Bool). (cond b (pairOf y x ∷ []) [] ++ []) ++ map (λ (y : Numbered). pairOf y x) (keep (pairing rule x) ys)) (pairs-comm rule (y .entry) (x .entry))
+        ∙ go (pairing rule x y)
+      where
+        go : (b : Bool) → (cond b (pairOf y x ∷ []) [] ++ []) ++ map (λ (y : Numbered). pairOf y x) (keep (pairing rule x) ys)
+            ≡ map (λ (y : Numbered). pairOf y x) (cond b (y ∷ keep (pairing rule x) ys) (keep (pairing rule x) ys))
+        go true = refl
+        go false = refl
+
+-- a higher ordinal, and a start that does not fall
+abbrev pub Later : Numbered → Numbered → Type 0
+Later y z = (y .ordinal < z .ordinal) × (y .entry .span .start ≤ z .entry .span .start)
+
+-- the pairs with an entry and with a later one are in order
+pairFrom-later : (side : Side) (x y z : Numbered) → Later y z → comesBefore (pairFrom side x y) (pairFrom side x z) ≡ true
+pairFrom-later A x y z h =
+    before-by-b (pairOf x y) (pairOf x z) (rw (pair-meeting x y, pair-meeting x z) (meeting-later (x .entry .span) (y .entry .span) (z .entry .span) (h .1)))
+    (pair-ordinal-a x y ∙ sym (pair-ordinal-a x z)) (rw (pair-ordinal-b x y, pair-ordinal-b x z) (h .0))
+pairFrom-later B x y z h =
+    before-by-a (pairOf y x) (pairOf z x)
+    (rw (pair-meeting y x, pair-meeting z x, meeting-comm (y .entry .span) (x .entry .span), meeting-comm (z .entry .span) (x .entry .span)) (meeting-later (x .entry .span) (y .entry .span) (z .entry .span) (h .1)))
+    (rw (pair-ordinal-a y x, pair-ordinal-a z x) (h .0))
+
+-- with entries that follow one another, the new pairs come in ascending order
+pub newPairs-ascending : (rule : Rule) (side : Side) (x : Numbered) (others : List Numbered) → Each Later others → Ascending comesBefore (newPairs rule side x others)
+newPairs-ascending rule side x others h =
+    rw (newPairs-map rule side x others)
+    (each-mapped (pairFrom side x) Later (λ (p q : Pair). comesBefore p q ≡ true) (pairFrom-later side x) (keep (pairing rule x) others) (each-keep Later (pairing rule x) others h))

@@ -1,0 +1,232 @@
+-- Laws of the queue: rows and the pairs in them, what is ready, what a merge leaves, and the judge.
+use Prim.Native.Nat.{ℕ, zero, suc, _+_, _-_, _≤_, _<_}
+use native.Mathlib.Omega.{arith}
+use mathlib.Core.Bool.{Bool, true, false, cond, _&&_}
+use mathlib.Core.List.{List, [], _∷_, _++_, map}
+use mathlib.Core.Logic.{_⊎_, inl, inr}
+use mathlib.Core.Path.{_≡_, refl, sym, ap, _∙_}
+use lib.Dec.{leb, eqb}
+use lib.ListN.{length, replicate, take, drop, getD, length-map, length-drop, drop-of-length-le, List·getD-map}
+use lib.Seq.{slice, length-take-le, getD-take}
+use borrow.Author.Tests.{leb-true, eqb-true}
+use Rattle.lists.specs.Judge.{allOf, chain}
+use Rattle.lists.specs.Keep.{keep}
+use Rattle.lists.specs.Sort.{insertBy, insertAllBy}
+use Rattle.lists.specs.Store.{padTo, Rows}
+use Rattle.lists.proofs.All.{All, each-map, each-mapped}
+use Rattle.lists.proofs.Array.{Shaped}
+use Rattle.lists.proofs.Bools.{and-left, and-right}
+use Rattle.lists.proofs.First.{Down, fails-on, keep-first}
+use Rattle.lists.proofs.InPlace.{moved-padded, padded-over}
+use Rattle.lists.proofs.Judge.{allOf-all, allOf-map, chain-map, chain-each}
+use Rattle.lists.proofs.Keep.{keep-map}
+use Rattle.lists.proofs.Order.{StrictOrder, Ascending}
+use Rattle.lists.proofs.Sort.{insertAllBy-length}
+use Rattle.lists.proofs.Store.{stores-length, stores-rows, stores-rest, content-length, row-listed, stores-judged}
+use Rattle.pairing.specs.declared.Pair.{Pair}
+use Rattle.pairing.specs.declared.Partner.{Partner}
+use Rattle.pairing.specs.declared.Numbered.{Numbered}
+use Rattle.pairing.specs.declared.Rule.{Rule}
+use Rattle.pairing.specs.declared.Side.{Side}
+use Rattle.pairing.specs.Pair.{pairs, comesBefore}
+use Rattle.pairing.specs.Side.{pairFrom, newPairs}
+use Rattle.pairing.proofs.Arrival.{pairing, newPairs-map}
+use Rattle.pairing.proofs.Pairs.{strict-comesBefore, before-start}
+use Rattle.area.specs.Area.{heldIn}
+use Rattle.journal.specs.declared.Gate.{Gate}
+use Rattle.journal.specs.Journal.{below}
+use Rattle.journal.proofs.Laws.{below-down}
+use Rattle.queue.specs.declared.Queue.{Queue}
+use Rattle.queue.specs.Queue.{pairIn, rowOf, places, waiting, queueOf, rowsOf, Holds, ready, soundPair, isZero, isBlank, soundQueue}
+
+-- ---- rows
+
+-- what is written is read back
+pub pair-row : (p : Pair) → pairIn (rowOf p) ≡ p
+unfolding pairIn rowOf
+pair-row p = refl
+
+-- a row of eight numbers is the row of the pair that it holds
+pub row-pair : (row : List ℕ) → length row ≡ 8 → rowOf (pairIn row) ≡ row
+unfolding pairIn rowOf
+row-pair row e = row-listed 8 row e
+
+zero-partner : (x : Partner) → isZero x ≡ true → x ≡ record { ordinal = 0; key = 0; value = 0 }
+zero-partner x e =
+    let rest = and-right (eqb (x .ordinal) 0) _ e in
+    let a = eqb-true (x .ordinal) 0 (and-left _ _ e) in
+    let b = eqb-true (x .key) 0 (and-left _ _ rest) in
+    let c = eqb-true (x .value) 0 (and-right (eqb (x .key) 0) _ rest) in
+    λ i. record { ordinal = a i; key = b i; value = c i }
+
+blank-row : (row : List ℕ) → length row ≡ 8 → isBlank (pairIn row) ≡ true → row ≡ replicate 8 0
+unfolding rowOf
+blank-row row long e =
+    let p = pairIn row in
+    let e1 = and-right (eqb (p .meeting .start) 0) _ e in
+    let e2 = and-right (eqb (p .meeting .end) 0) _ e1 in
+    let start = eqb-true (p .meeting .start) 0 (and-left _ _ e) in
+    let end = eqb-true (p .meeting .end) 0 (and-left _ _ e1) in
+    let a = zero-partner (p .a) (and-left _ _ e2) in
+    let b = zero-partner (p .b) (and-right (isZero (p .a)) _ e2) in
+    sym (row-pair row long) ∙ (λ i. rowOf (record { meeting = record { start = start i; end = end i }; a = a i; b = b i }))
+
+-- the order of rows is that of the pairs in them
+abbrev pub rowBefore : List ℕ → List ℕ → Bool
+rowBefore x y = comesBefore (pairIn x) (pairIn y)
+
+pub strict-rowBefore : StrictOrder rowBefore
+strict-rowBefore = record {
+  asym = λ x y. strict-comesBefore .asym (pairIn x) (pairIn y);
+  trans = λ x y z. strict-comesBefore .trans (pairIn x) (pairIn y) (pairIn z);
+}
+
+-- ---- the rows of the new pairs
+
+-- does the entry in a row pair with x?
+abbrev pub meets : Rule → Numbered → List ℕ → Bool
+meets rule x row = pairs rule (x .entry) (heldIn row .entry)
+
+-- the row of their pair
+abbrev pub newRow : Side → Numbered → List ℕ → List ℕ
+newRow side x row = rowOf (pairFrom side x (heldIn row))
+
+map-map : {A B C : Type 0} (g : B → C) (f : A → B) (xs : List A) → map g (map f xs) ≡ map (λ (x : A). g (f x)) xs
+map-map g f [] = refl
+map-map {A} {B} {C} g f (x ∷ xs) = ap {B = List C} (λ l. g (f x) ∷ l) (map-map g f xs)
+
+pub new-rows : (rule : Rule) (side : Side) (x : Numbered) (rows : Rows) → map (newRow side x) (keep (meets rule x) rows) ≡ map rowOf (newPairs rule side x (map heldIn rows))
+new-rows rule side x rows =
+    sym (ap (map rowOf)
+    (newPairs-map rule side x (map heldIn rows)
+    ∙ ap (map (pairFrom side x)) (keep-map (pairing rule x) heldIn rows)
+    ∙ map-map (pairFrom side x) heldIn (keep (meets rule x) rows))
+    ∙ map-map rowOf (λ (row : List ℕ). pairFrom side x (heldIn row)) (keep (meets rule x) rows))
+
+pub new-ascending : (rule : Rule) (side : Side) (x : Numbered) (rows : Rows) → chain comesBefore (newPairs rule side x (map heldIn rows)) ≡ true → Ascending rowBefore (map (newRow side x) (keep (meets rule x) rows))
+new-ascending rule side x rows sorted =
+    rw (new-rows rule side x rows)
+    (each-mapped rowOf (λ (p q : Pair). comesBefore p q ≡ true) (λ (a b : List ℕ). rowBefore a b ≡ true) (λ p q e. ap (λ (y : Pair). comesBefore y (pairIn (rowOf q))) (pair-row p) ∙ ap (comesBefore p) (pair-row q) ∙ e)
+    (newPairs rule side x (map heldIn rows)) (chain-each comesBefore (strict-comesBefore .trans) (newPairs rule side x (map heldIn rows)) sorted))
+
+-- ---- the judge
+
+pub sound-rows : (ofA ofB : ℕ) (queue : Queue) (rows : Rows)
+    → soundQueue ofA ofB queue rows
+    ≡ leb (queue .count) places
+    && (allOf (λ (row : List ℕ). soundPair ofA ofB (pairIn row)) (take (queue .count) rows)
+    && (chain rowBefore (take (queue .count) rows) && allOf (λ (row : List ℕ). isBlank (pairIn row)) (drop (queue .count) rows)))
+unfolding soundQueue
+sound-rows ofA ofB queue rows =
+    rw (allOf-map pairIn (soundPair ofA ofB) (take (queue .count) rows), chain-map pairIn comesBefore (take (queue .count) rows), allOf-map pairIn isBlank (drop (queue .count) rows))
+
+-- the places of a sound queue store the waiting pairs
+pub sound-holds : (ofA ofB : ℕ) (queue : Queue) (rows : Rows) → Shaped places 8 rows → soundQueue ofA ofB queue rows ≡ true → Holds queue rows
+unfolding soundQueue
+sound-holds ofA ofB queue rows shaped e =
+    let rest = and-right (leb (queue .count) places) _ e in
+    let spare = and-right (chain comesBefore (waiting queue rows)) _ (and-right (allOf (soundPair ofA ofB) (waiting queue rows)) _ rest) in
+    stores-judged pairIn rowOf places 8 isBlank row-pair blank-row (queue .count) rows shaped (leb-true (queue .count) places (and-left _ _ e)) spare
+
+module _ (queue : Queue) (rows : Rows) (h : Holds queue rows) where
+  pub holds-length : length rows ≡ places
+  holds-length = stores-length pairIn rowOf places 8 (queue .count) rows h
+
+  waiting-length : length (waiting queue rows) ≡ queue .count
+  waiting-length = content-length pairIn rowOf places 8 (queue .count) rows h
+
+  -- neighbours in order are all in order
+  pub ascending-rows : chain comesBefore (waiting queue rows) ≡ true → Ascending rowBefore (take (queue .count) rows)
+  ascending-rows sorted = chain-each rowBefore (strict-rowBefore .trans) (take (queue .count) rows) (sym (chain-map pairIn comesBefore (take (queue .count) rows)) ∙ sorted)
+
+  ascending-waiting : chain comesBefore (waiting queue rows) ≡ true → Ascending comesBefore (waiting queue rows)
+  ascending-waiting sorted = chain-each comesBefore (strict-comesBefore .trans) (waiting queue rows) sorted
+
+  -- ---- the first ones dropped
+
+  map-drop : (k : ℕ) (ps : List Pair) → map rowOf (drop k ps) ≡ drop k (map rowOf ps)
+  map-drop zero ps = refl
+  map-drop (suc k) [] = refl
+  map-drop (suc k) (p ∷ ps) = map-drop k ps
+
+  pub dropped : (k : ℕ) (moved left : Rows) → k ≤ queue .count → moved ≡ slice k (queue .count) rows ++ drop (queue .count - k) rows
+      → left ≡ take (queue .count - k) moved ++ (replicate (queue .count - (queue .count - k)) (replicate 8 0) ++ drop (queue .count) moved)
+      → (record { count = queue .count - k } ≡ queueOf (drop k (waiting queue rows))) × (left ≡ rowsOf (drop k (waiting queue rows)))
+  dropped k moved left less e f =
+      let n : queue .count - k ≡ length (drop k (waiting queue rows)) = sym (length-drop k (waiting queue rows) ∙ ap (λ (m : ℕ). m - k) waiting-length) in (
+        ap (λ (m : ℕ). record { count = m }) n,
+        moved-padded places (queue .count) k (replicate 8 0) rows moved left holds-length (h .few) less (stores-rest pairIn rowOf places 8 (queue .count) rows h) e f
+            ∙ ap (padTo places (replicate 8 0)) (ap (drop k) (stores-rows pairIn rowOf places 8 (queue .count) rows h) ∙ sym (map-drop k (waiting queue rows))),
+      )
+
+  -- ---- what is ready
+
+  ready-down : (a b : Gate) (p q : Pair) → comesBefore p q ≡ true → Down (ready a b) p q
+  unfolding ready
+  ready-down a b p q e f =
+      let s = before-start p q e in
+      let u = q .meeting .start in
+      rw (below-down a (p .meeting .start) u s (and-left (below a u) (below b u) f), below-down b (p .meeting .start) u s (and-right (below a u) (below b u) f))
+
+  -- the first k are ready and the next is not, or there is no next
+  pub ready-first : (a b : Gate) (k : ℕ) → chain comesBefore (waiting queue rows) ≡ true → k ≤ queue .count → allOf (λ (row : List ℕ). ready a b (pairIn row)) (take k rows) ≡ true
+      → (k ≡ queue .count) ⊎ ((k < queue .count) × (ready a b (pairIn (getD rows k [])) ≡ false))
+      → (k ≡ length (keep (ready a b) (waiting queue rows))) × (take k (waiting queue rows) ≡ keep (ready a b) (waiting queue rows))
+  ready-first a b k sorted few firsts stop =
+      let ps = waiting queue rows in
+      let first : take k ps ≡ map pairIn (take k rows) = map-take k (queue .count) rows few in
+      let kept : keep (ready a b) ps ≡ take k ps = keep-first (ready a b) ps k (rw first (allOf-all (ready a b) (map pairIn (take k rows)) (allOf-map pairIn (ready a b) (take k rows) ∙ firsts))) (rest stop) in
+      (sym (ap length kept ∙ length-take-le k ps (omega (arith, waiting-length))), sym kept)
+    where
+      map-take : (k n : ℕ) (l : Rows) → k ≤ n → take k (map pairIn (take n l)) ≡ map pairIn (take k l)
+      map-take zero n l h = refl
+      map-take (suc k) zero l h = absurd (never h)
+        where
+          never : suc k ≤ 0 → ⊥
+          never h = omega arith
+      map-take (suc k) (suc n) [] h = refl
+      map-take (suc k) (suc n) (x ∷ l) h = ap {B = List Pair} (λ t. pairIn x ∷ t) (map-take k n l (less h))
+        where
+          less : suc k ≤ suc n → k ≤ n
+          less h = omega arith
+
+      rest : (k ≡ queue .count) ⊎ ((k < queue .count) × (ready a b (pairIn (getD rows k [])) ≡ false)) → All (λ (p : Pair). ready a b p ≡ false) (drop k (waiting queue rows))
+      rest (inl e) = rw (drop-of-length-le (waiting queue rows) {i = k} (omega (arith, waiting-length))) tt
+      rest (inr (l, e)) =
+          fails-on (ready a b) (waiting queue rows) k (pairIn []) (omega (arith, waiting-length))
+          (each-map (λ (p q : Pair). comesBefore p q ≡ true) (Down (ready a b)) (ready-down a b) (waiting queue rows) (ascending-waiting sorted))
+          (ap (ready a b) (List·getD-map pairIn (take (queue .count) rows) k [] ∙ ap pairIn (getD-take (queue .count) rows k [] l)) ∙ e)
+
+  -- ---- the new pairs merged
+
+  insert-rows : (p : Pair) (ps : List Pair) → insertBy rowBefore (rowOf p) (map rowOf ps) ≡ map rowOf (insertBy comesBefore p ps)
+  insert-rows p [] = refl
+  insert-rows p (q ∷ ps) = rw (pair-row p, pair-row q) (go (comesBefore p q) (insert-rows p ps))
+    where
+      go : (b : Bool) → insertBy rowBefore (rowOf p) (map rowOf ps) ≡ map rowOf (insertBy comesBefore p ps)
+          → cond b (rowOf p ∷ rowOf q ∷ map rowOf ps) (rowOf q ∷ insertBy rowBefore (rowOf p) (map rowOf ps)) ≡ map rowOf (cond b (p ∷ q ∷ ps) (q ∷ insertBy comesBefore p ps))
+      go true e = refl
+      go false e = ap {B = Rows} (λ l. rowOf q ∷ l) e
+
+  insertAll-rows : (new ps : List Pair) → insertAllBy rowBefore (map rowOf new) (map rowOf ps) ≡ map rowOf (insertAllBy comesBefore new ps)
+  insertAll-rows [] ps = refl
+  insertAll-rows (p ∷ new) ps = ap (insertAllBy rowBefore (map rowOf new)) (insert-rows p ps) ∙ insertAll-rows new (insertBy comesBefore p ps)
+
+  -- the rows of the new pairs among those of the waiting ones store the merged pairs
+  pub merged : (new : List Pair) (left : Rows) → queue .count + length new ≤ places
+      → left ≡ insertAllBy rowBefore (map rowOf new) (take (queue .count) rows) ++ drop (queue .count + length (map rowOf new)) rows
+      → left ≡ rowsOf (insertAllBy comesBefore new (waiting queue rows))
+  merged new left room e =
+      let all = insertAllBy comesBefore new (waiting queue rows) in
+      let m : queue .count + length (map rowOf new) ≡ queue .count + length new = ap (λ (k : ℕ). queue .count + k) (length-map new rowOf) in
+      let long : length (map rowOf all) ≡ queue .count + length new = length-map all rowOf ∙ insertAllBy-length comesBefore new (waiting queue rows) ∙ omega (arith, waiting-length) in
+      e
+      ∙ ap (λ (l : Rows). insertAllBy rowBefore (map rowOf new) l ++ drop (queue .count + length (map rowOf new)) rows) (stores-rows pairIn rowOf places 8 (queue .count) rows h)
+      ∙ ap (λ (l : Rows). l ++ drop (queue .count + length (map rowOf new)) rows) (insertAll-rows new (waiting queue rows))
+      ∙ ap (λ (k : ℕ). map rowOf all ++ drop k rows) m
+      ∙ padded-over places (queue .count) (queue .count + length new) (replicate 8 0) rows (map rowOf all) (stores-rest pairIn rowOf places 8 (queue .count) rows h) (omega arith) room long
+
+  pub merged-count : (new : List Pair) → record { count = queue .count + length new } ≡ queueOf (insertAllBy comesBefore new (waiting queue rows))
+  merged-count new =
+      let n : queue .count + length new ≡ length (insertAllBy comesBefore new (waiting queue rows)) = sym (insertAllBy-length comesBefore new (waiting queue rows) ∙ omega (arith, waiting-length)) in
+      ap (λ (m : ℕ). record { count = m }) n

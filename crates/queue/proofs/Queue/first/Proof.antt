@@ -1,0 +1,28 @@
+-- `first` meets its contract: the first place holds the first waiting pair.
+use borrow.Author.Needs.{needs}
+use Prim.Native.Nat.{ℕ}
+use native.Mathlib.Omega.{arith}
+use mathlib.Core.List.{[]}
+use mathlib.Core.Path.{_≡_, sym, ap, _∙_}
+use lib.ListN.{take, getD, List·getD-map}
+use lib.Seq.{getD-take}
+use Rattle.queue.specs.Queue.{pairIn}
+use Rattle.queue.proofs.Laws.{holds-length}
+use Rattle.queue.proofs.Queue.first.Statement.{statement}
+use Rattle.queue.proofs.Queue.first.Tie as tie
+
+element-copy-out-pair-in : tie.Need-element-copy-out-pair-in
+element-copy-out-pair-in c = omega (arith, holds-length (c .args .self) (c .args .rows .now) (c .pre .1))
+
+pair-in-requires : tie.Need-pair-in-requires
+pair-in-requires c κs = search needs
+
+returns : tie.Need-returns
+returns c =
+    let st = c .before .before in
+    let rows = st .args .rows .now in
+    let n = st .args .self .count in
+    c .pair-in .ensures ∙ sym (List·getD-map pairIn (take n rows) 0 [] ∙ ap pairIn (getD-take n rows 0 [] (st .pre .0)))
+
+pub first-spec : {M : Type 1} → statement M
+first-spec = tie.close (tie.spec element-copy-out-pair-in pair-in-requires returns)

@@ -1,0 +1,68 @@
+-- The queue: up to 256 pairs formed and not yet handed out, in the plain list's order, in places that the caller lends.
+use Prim.Native.Nat.{ℕ}
+use mathlib.Core.Bool.{Bool, _&&_}
+use mathlib.Core.List.{List, [], _∷_, map}
+use lib.Dec.{ltb, leb, eqb}
+use lib.ListN.{length, drop, getD}
+use Rattle.interval.specs.Interval.{properOf}
+use Rattle.lists.specs.Judge.{allOf, chain}
+use Rattle.lists.specs.Store.{Rows, content, stored, Stores}
+use Rattle.pairing.specs.declared.Pair.{Pair}
+use Rattle.pairing.specs.declared.Partner.{Partner}
+use Rattle.pairing.specs.Pair.{comesBefore}
+use Rattle.journal.specs.declared.Gate.{Gate}
+use Rattle.journal.specs.Journal.{below}
+use Rattle.queue.specs.declared.Queue.{Queue}
+
+-- a place holds start, end, A ordinal, B ordinal, A key, B key, A value and B value
+unfoldable pub pairIn : List ℕ → Pair
+pairIn row = record {
+  meeting = record { start = getD row 0 0; end = getD row 1 0 };
+  a = record { ordinal = getD row 2 0; key = getD row 4 0; value = getD row 6 0 };
+  b = record { ordinal = getD row 3 0; key = getD row 5 0; value = getD row 7 0 };
+}
+
+unfoldable pub rowOf : Pair → List ℕ
+rowOf p =
+    p .meeting .start ∷ p .meeting .end ∷ p .a .ordinal ∷ p .b .ordinal ∷ p .a .key ∷ p .b .key ∷ p .a .value ∷ p .b .value ∷ []
+
+-- Limits: 256 waiting pairs.
+abbrev pub places : ℕ
+places = 256
+
+-- the waiting pairs, in the order of their places
+abbrev pub waiting : Queue → Rows → List Pair
+waiting queue rows = content pairIn (queue .count) rows
+
+-- the queue, and the one value of its places, in which some pairs wait. Places beyond a count hold zeros.
+abbrev pub queueOf : List Pair → Queue
+queueOf ps = record { count = length ps }
+
+abbrev pub rowsOf : List Pair → Rows
+rowsOf ps = stored rowOf places 8 ps
+
+abbrev pub Holds : Queue → Rows → Type 0
+Holds queue rows = Stores pairIn rowOf places 8 (queue .count) rows
+
+-- A waiting pair is ready when its start is below the clock of every open journal; with both closed, all are ready.
+unfoldable pub ready : Gate → Gate → Pair → Bool
+ready a b p = below a (p .meeting .start) && below b (p .meeting .start)
+
+-- Waiting pairs have proper intervals and ordinals below the counts.
+abbrev pub soundPair : ℕ → ℕ → Pair → Bool
+soundPair ofA ofB p = properOf (p .meeting) && (ltb (p .a .ordinal) ofA && ltb (p .b .ordinal) ofB)
+
+-- Spare places are zero.
+abbrev pub isZero : Partner → Bool
+isZero x = eqb (x .ordinal) 0 && (eqb (x .key) 0 && eqb (x .value) 0)
+
+abbrev pub isBlank : Pair → Bool
+isBlank p = eqb (p .meeting .start) 0 && (eqb (p .meeting .end) 0 && (isZero (p .a) && isZero (p .b)))
+
+-- The count is within its limit, the waiting pairs are sound and in strictly ascending order, and spare places are zero.
+unfoldable pub soundQueue : ℕ → ℕ → Queue → Rows → Bool
+soundQueue ofA ofB queue rows =
+    leb (queue .count) places
+    && (allOf (soundPair ofA ofB) (waiting queue rows)
+    && (chain comesBefore (waiting queue rows)
+    && allOf isBlank (map pairIn (drop (queue .count) rows))))
