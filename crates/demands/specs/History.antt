@@ -1,0 +1,76 @@
+-- Any calls, with any arguments, made of a join: which entries were accepted, which pairs were handed out, and the state after them.
+use Prim.Native.Nat.{ℕ}
+use mathlib.Core.List.{List, [], _∷_, _++_}
+use Rattle.pairing.specs.declared.Entry.{Entry}
+use Rattle.pairing.specs.declared.Pair.{Pair}
+use Rattle.pairing.specs.declared.Rule.{Rule}
+use Rattle.pairing.specs.declared.Side.{Side}
+use Rattle.pairing.specs.declared.Side.the-variants.{A, B}
+use Rattle.journal.specs.Answer.{unlessRefused}
+use Rattle.join.specs.declared.Took.{Took}
+use Rattle.join.specs.declared.Took.the-variants.{Handed, Waiting, Finished, Refused}
+use Rattle.join.specs.State.{State, freshState}
+use Rattle.join.specs.Calls.{sideOf, entryCall, markCall, closeCall, takeCall}
+
+pub data Call : Type 0 where
+  Enter : ℕ → Entry → Call
+  Mark : ℕ → ℕ → Call
+  Close : ℕ → Call
+  Take : Call
+
+-- the state after a call
+abbrev pub after : State → Call → State
+after s (Enter stream e) = entryCall s stream e .state
+after s (Mark stream time) = markCall s stream time .state
+after s (Close stream) = closeCall s stream .state
+after s Take = takeCall s .state
+
+-- an entry, where it is of that side
+abbrev pub ofSide : Side → Side → Entry → List Entry
+ofSide A A e = e ∷ []
+ofSide A B e = []
+ofSide B A e = []
+ofSide B B e = e ∷ []
+
+-- the entries of a side that a call brings: the one that is answered Accepted
+abbrev pub accepts : Side → State → Call → List Entry
+accepts side s (Enter stream e) = unlessRefused (entryCall s stream e .answer) (ofSide side (sideOf stream) e) []
+accepts side s (Mark stream time) = []
+accepts side s (Close stream) = []
+accepts side s Take = []
+
+-- the pair that an answer hands out
+abbrev pub pairOf : Took → List Pair
+pairOf (Handed p) = p ∷ []
+pairOf Waiting = []
+pairOf Finished = []
+pairOf (Refused number) = []
+
+-- the pairs that a call hands out
+abbrev pub hands : State → Call → List Pair
+hands s (Enter stream e) = []
+hands s (Mark stream time) = []
+hands s (Close stream) = []
+hands s Take = pairOf (takeCall s .answer)
+
+-- what has come of some calls: the accepted entries of each journal and the pairs handed out, in order, and the state
+pub record World : Type 0 where
+  pub state : State
+  pub ofA : List Entry
+  pub ofB : List Entry
+  pub out : List Pair
+
+abbrev pub begin : Rule → World
+begin rule = record { state = freshState rule; ofA = []; ofB = []; out = [] }
+
+abbrev pub step : World → Call → World
+step w c = record {
+  state = after (w .state) c;
+  ofA = w .ofA ++ accepts A (w .state) c;
+  ofB = w .ofB ++ accepts B (w .state) c;
+  out = w .out ++ hands (w .state) c;
+}
+
+abbrev pub run : World → List Call → World
+run w [] = w
+run w (c ∷ cs) = run (step w c) cs
