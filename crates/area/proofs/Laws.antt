@@ -67,6 +67,11 @@ sound-holds own other area rows shaped e =
     let spare = and-right (chain follows (held area rows)) _ (and-right (allOf (soundEntry own other) (held area rows)) _ rest) in
     stores-judged heldIn rowOf places 5 isBlank row-held blank-row (area .count) rows shaped (leb-true (area .count) places (and-left _ _ e)) spare
 
+-- and follow one another
+pub sound-follows : (own : Journal) (other : Gate) (area : Area) (rows : Rows) → soundArea own other area rows ≡ true → chain follows (held area rows) ≡ true
+unfolding soundArea
+sound-follows own other area rows e = and-left _ _ (and-right (allOf (soundEntry own other) (held area rows)) _ (and-right (leb (area .count) places) _ e))
+
 module _ (area : Area) (rows : Rows) (h : Holds area rows) where
   pub holds-length : length rows ≡ places
   holds-length = stores-length heldIn rowOf places 5 (area .count) rows h

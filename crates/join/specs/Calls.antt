@@ -29,9 +29,12 @@ pub record Outcome (Answered : Type 0) : Type 0 where
   pub answer : Answered
   pub state : State
 
+abbrev pub outcome : {Answered : Type 0} → Answered → State → Outcome Answered
+outcome answer state = record { answer = answer; state = state }
+
 -- a call that rows of the table may refuse: the first that applies is the answer, and a refusal leaves the state exactly as it came
 abbrev pub called : State → List Row → State → Outcome Answer
-called s rows next = record { answer = firstOf rows; state = unlessRefused (firstOf rows) next s }
+called s rows next = outcome (firstOf rows) (unlessRefused (firstOf rows) next s)
 
 -- Journal A is stream 0, B is stream 1.
 abbrev pub sideOf : ℕ → Side
@@ -149,10 +152,10 @@ afterTake Finished s = s
 afterTake (Refused number) s = s
 
 abbrev pub takeOn : State → Outcome Took
-takeOn s = record { answer = nextOf (readyIn s) (bothClosed s) (waitingIn s); state = afterTake (nextOf (readyIn s) (bothClosed s) (waitingIn s)) s }
+takeOn s = outcome (nextOf (readyIn s) (bothClosed s) (waitingIn s)) (afterTake (nextOf (readyIn s) (bothClosed s) (waitingIn s)) s)
 
 unfoldable pub takeCall : State → Outcome Took
-takeCall s = cond (sound s) (takeOn s) (record { answer = Refused 8; state = s })
+takeCall s = cond (sound s) (takeOn s) (outcome (Refused 8) s)
 
 -- the number of an answer to a take, as the table has it; 0 where nothing is refused
 abbrev pub tookNumber : Took → ℕ

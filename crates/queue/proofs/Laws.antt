@@ -128,6 +128,11 @@ sound-holds ofA ofB queue rows shaped e =
     let spare = and-right (chain comesBefore (waiting queue rows)) _ (and-right (allOf (soundPair ofA ofB) (waiting queue rows)) _ rest) in
     stores-judged pairIn rowOf places 8 isBlank row-pair blank-row (queue .count) rows shaped (leb-true (queue .count) places (and-left _ _ e)) spare
 
+-- which are in order
+pub sound-in-order : (ofA ofB : ℕ) (queue : Queue) (rows : Rows) → soundQueue ofA ofB queue rows ≡ true → chain comesBefore (waiting queue rows) ≡ true
+unfolding soundQueue
+sound-in-order ofA ofB queue rows e = and-left _ _ (and-right (allOf (soundPair ofA ofB) (waiting queue rows)) _ (and-right (leb (queue .count) places) _ e))
+
 module _ (queue : Queue) (rows : Rows) (h : Holds queue rows) where
   pub holds-length : length rows ≡ places
   holds-length = stores-length pairIn rowOf places 8 (queue .count) rows h

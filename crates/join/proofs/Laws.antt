@@ -1,0 +1,282 @@
+-- Laws of the join's definitions that its functions rest on.
+use Prim.Native.Nat.{ℕ, _+_, _≤_, _<_}
+use native.Mathlib.Omega.{arith}
+use mathlib.Core.Bool.{Bool, true, false, cond, not, _&&_, false≢true}
+use mathlib.Core.List.{List, [], _∷_, _++_, append-nil, map}
+use mathlib.Core.Path.{_≡_, refl, sym, ap, _∙_}
+use lib.Dec.{ltb, leb}
+use lib.ListN.{length, length-map}
+use borrow.Author.Tests.{ltb-true, leb-true, leb-false, le-ltb, lt-ltb, lt-leb, le-leb}
+use Rattle.interval.specs.Interval.{properOf}
+use Rattle.lists.specs.Judge.{chain}
+use Rattle.lists.specs.Sort.{insertAllBy}
+use Rattle.lists.specs.Store.{Rows}
+use Rattle.lists.proofs.All.{Each, each-map}
+use Rattle.lists.proofs.Bools.{and-left, and-right}
+use Rattle.lists.proofs.Judge.{chain-each, each-chain}
+use Rattle.lists.proofs.Keep.{keep-length}
+use Rattle.lists.proofs.Store.{content-length}
+use Rattle.pairing.specs.declared.Entry.{Entry}
+use Rattle.pairing.specs.declared.Numbered.{Numbered}
+use Rattle.pairing.specs.declared.Pair.{Pair}
+use Rattle.pairing.specs.declared.Rule.{Rule}
+use Rattle.pairing.specs.declared.Side.{Side}
+use Rattle.pairing.specs.declared.Side.the-variants.{A, B}
+use Rattle.pairing.specs.Pair.{pairs, comesBefore}
+use Rattle.pairing.specs.Side.{pairFrom, newPairs}
+use Rattle.pairing.proofs.Arrival.{Later, newPairs-map, newPairs-ascending}
+use Rattle.journal.specs.declared.Answer.{Answer}
+use Rattle.journal.specs.declared.Answer.the-variants.{Accepted, Refused}
+use Rattle.journal.specs.declared.Gate.{Gate}
+use Rattle.journal.specs.declared.Gate.the-variants.{Open}
+use Rattle.journal.specs.declared.Journal.{Journal}
+use Rattle.journal.specs.Answer.{Row, _gives_, firstOf, unlessRefused}
+use Rattle.journal.specs.Journal.{wanted, isClosed, isBehind, entered}
+use Rattle.area.specs.declared.Area.{Area}
+use Rattle.area.specs.Area as area
+use Rattle.area.proofs.Laws as area-laws
+use Rattle.queue.specs.declared.Queue.{Queue}
+use Rattle.queue.specs.Queue as queue
+use Rattle.queue.proofs.Laws as queue-laws
+use Rattle.join.specs.declared.Half.{Half}
+use Rattle.join.specs.State.{State, View, Sound, Stand, Leaves, sound, entries, stateWith, seen, view, stateOf}
+use Rattle.join.specs.Calls.{outcome, called, arrival, formed, entryRows, afterEntry, entryOn}
+
+-- ---- the new pairs of an entry
+
+-- they are as many as its partners
+pub formed-count : (rule : Rule) (side : Side) (x : Numbered) (others : List Numbered) → length (newPairs rule side x others) ≡ length (area.partners rule (x .entry) others)
+formed-count rule side x others = ap length (newPairs-map rule side x others) ∙ length-map (area.partners rule (x .entry) others) (pairFrom side x)
+
+-- and no more than the entries that are looked at
+pub partners-few : (rule : Rule) (e : Entry) (xs : List Numbered) → length (area.partners rule e xs) ≤ length xs
+partners-few rule e xs = keep-length (λ (x : Numbered). pairs rule e (x .entry)) xs
+
+follows-later : (x y : Numbered) → area.follows x y ≡ true → Later x y
+follows-later x y e = (ltb-true (x .ordinal) (y .ordinal) (and-left _ _ e), leb-true (x .entry .span .start) (y .entry .span .start) (and-right (ltb (x .ordinal) (y .ordinal)) _ e))
+
+later-follows : (x y : Numbered) → Later x y → area.follows x y ≡ true
+later-follows x y h = rw (lt-ltb (x .ordinal) (y .ordinal) (h .0), le-leb (x .entry .span .start) (y .entry .span .start) (h .1))
+
+follows-trans : (x y z : Numbered) → area.follows x y ≡ true → area.follows y z ≡ true → area.follows x z ≡ true
+follows-trans x y z e f =
+    let h = follows-later x y e in
+    let k = follows-later y z f in
+    later-follows x z (omega arith, omega arith)
+
+-- they come in ascending order, as the held entries follow one another
+pub formed-ascending : (rule : Rule) (side : Side) (x : Numbered) (others : List Numbered) → chain area.follows others ≡ true → chain comesBefore (newPairs rule side x others) ≡ true
+formed-ascending rule side x others e =
+    each-chain comesBefore (newPairs rule side x others)
+    (newPairs-ascending rule side x others (each-map (λ (x y : Numbered). area.follows x y ≡ true) Later follows-later others (chain-each area.follows follows-trans others e)))
+
+-- ---- rows of the table
+
+-- where nothing before applies, the rest decides
+pub firstOf-append : (rows more : List Row) → firstOf (rows ++ more) ≡ unlessRefused (firstOf rows) (firstOf more) (firstOf rows)
+firstOf-append [] more = refl
+firstOf-append (row ∷ rows) more = go (row .when) (firstOf-append rows more)
+  where
+    go : (b : Bool) → firstOf (rows ++ more) ≡ unlessRefused (firstOf rows) (firstOf more) (firstOf rows)
+        → cond b (Refused (row .number)) (firstOf (rows ++ more)) ≡ unlessRefused (cond b (Refused (row .number)) (firstOf rows)) (firstOf more) (cond b (Refused (row .number)) (firstOf rows))
+    go true e = refl
+    go false e = e
+
+accepted-not : (b : Bool) (number : ℕ) (rest : Answer) → cond b (Refused number) rest ≡ Accepted → (b ≡ false) × (rest ≡ Accepted)
+accepted-not true number rest e = absurd (never number e)
+  where
+    never : (number : ℕ) → Refused number ≡ Accepted → ⊥
+    never number e = let z : _≡_ {A = ℕ} 0 1 = cc in omega arith
+accepted-not false number rest e = (refl, e)
+
+-- ---- an entry of one side
+
+-- the rows before the pairs are counted
+abbrev pub firstRows : Journal → Gate → ℕ → Entry → List Row
+firstRows own other count e =
+    (isClosed (own .gate) gives 2)
+    ∷ (not (properOf (e .span)) gives 3)
+    ∷ (isBehind (own .gate) (e .span .start) gives 4)
+    ∷ (leb entries (own .accepted) gives 5)
+    ∷ (wanted other e && leb area.places count gives 6)
+    ∷ []
+
+-- what they tell where none applies
+pub first-tells : (own : Journal) (other : Gate) (count : ℕ) (e : Entry) → firstOf (firstRows own other count e) ≡ Accepted → (own .accepted < entries) × (wanted other e ≡ true → count < area.places)
+first-tells own other count e h =
+    let s3 = accepted-not (isClosed (own .gate)) 2 _ h .1 in
+    let s4 = accepted-not (not (properOf (e .span))) 3 _ s3 .1 in
+    let s5 = accepted-not (isBehind (own .gate) (e .span .start)) 4 _ s4 .1 in
+    let s6 = accepted-not (leb entries (own .accepted)) 5 _ s5 in
+    let s7 = accepted-not (wanted other e && leb area.places count) 6 _ (s6 .1) .0 in
+    (leb-false entries (own .accepted) (s6 .0), λ w. leb-false area.places count (room (wanted other e) (leb area.places count) s7 w))
+  where
+    room : (a b : Bool) → a && b ≡ false → a ≡ true → b ≡ false
+    room true b e f = e
+    room false b e f = absurd (false≢true f)
+
+module _ (rule : Rule) (side : Side) (own other : Half) (waiting : Queue) (mine others rows : Rows) (stand : Stand own other waiting mine others rows) where
+  abbrev v : View
+  v = seen rule own other waiting mine others rows
+
+  mine-length : length (v .mine) ≡ own .area .count
+  mine-length = content-length area.heldIn area.rowOf area.places 5 (own .area .count) mine (stand .holds-mine)
+
+  others-length : length (v .others) ≡ other .area .count
+  others-length = content-length area.heldIn area.rowOf area.places 5 (other .area .count) others (stand .holds-others)
+
+  waiting-length : length (v .waiting) ≡ waiting .count
+  waiting-length = content-length queue.pairIn queue.rowOf queue.places 8 (waiting .count) rows (stand .holds-rows)
+
+  -- what is refused stands as it stood
+  pub leaves-all : Leaves v own other waiting mine others rows
+  leaves-all =
+      let m = sym mine-length in
+      let o = sym others-length in
+      let w = sym waiting-length in
+      record {
+        own-half = λ i. record { journal = own .journal; area = record { count = m i } };
+        other-half = λ i. record { journal = other .journal; area = record { count = o i } };
+        count = λ i. record { count = w i };
+        mine-rows = stand .holds-mine .same;
+        others-rows = stand .holds-others .same;
+        queue-rows = stand .holds-rows .same;
+      }
+
+  module _ (e : Entry) where
+    abbrev new : ℕ
+    new = length (area.partners rule e (v .others))
+
+    -- the answer, by the rows before the pairs are counted and by their number
+    answer-is : (first : Answer) → first ≡ firstOf (firstRows (own .journal) (other .journal .gate) (own .area .count) e)
+        → firstOf (entryRows side v e) ≡ unlessRefused first (cond (ltb queue.places (waiting .count + new)) (Refused 7) Accepted) first
+    unfolding entryRows
+    answer-is first f =
+        rw (mine-length, waiting-length, formed-count rule side (record { entry = e; ordinal = own .journal .accepted }) (v .others))
+        (firstOf-append (firstRows (own .journal) (other .journal .gate) (own .area .count) e) ((ltb queue.places (waiting .count + new) gives 7) ∷ [])
+        ∙ ap (λ (a : Answer). unlessRefused a (cond (ltb queue.places (waiting .count + new)) (Refused 7) Accepted) a) (sym f))
+
+    pub answer-first : (first : Answer) (number : ℕ) → first ≡ firstOf (firstRows (own .journal) (other .journal .gate) (own .area .count) e) → first ≡ Refused number → first ≡ firstOf (entryRows side v e)
+    answer-first first number f g = sym (answer-is first f ∙ rw g)
+
+    pub answer-full : (first : Answer) → first ≡ firstOf (firstRows (own .journal) (other .journal .gate) (own .area .count) e) → first ≡ Accepted → queue.places < waiting .count + new
+        → Refused 7 ≡ firstOf (entryRows side v e)
+    answer-full first f g h = sym (answer-is first f ∙ rw (g, lt-ltb queue.places (waiting .count + new) h))
+
+    pub answer-accepted : (first : Answer) → first ≡ firstOf (firstRows (own .journal) (other .journal .gate) (own .area .count) e) → first ≡ Accepted → waiting .count + new ≤ queue.places
+        → Accepted ≡ firstOf (entryRows side v e)
+    answer-accepted first f g h = sym (answer-is first f ∙ rw (g, le-ltb queue.places (waiting .count + new) h))
+
+    -- what the steps of an admitted entry leave
+    pub admitted : (after : Journal) (kept left : Area) (merged : Queue) (mine′ others′ rows′ : Rows) → after ≡ entered e (own .journal)
+        → kept ≡ area.areaOf (v .mine ++ area.wantedBy (other .journal .gate) (arrival v e ∷ [])) → mine′ ≡ area.rowsOf (v .mine ++ area.wantedBy (other .journal .gate) (arrival v e ∷ []))
+        → left ≡ area.areaOf (area.wantedBy (Open (e .span .start)) (v .others)) → others′ ≡ area.rowsOf (area.wantedBy (Open (e .span .start)) (v .others))
+        → merged ≡ queue.queueOf (insertAllBy comesBefore (formed side v e) (v .waiting)) → rows′ ≡ queue.rowsOf (insertAllBy comesBefore (formed side v e) (v .waiting))
+        → Leaves (afterEntry side v e) (record { journal = after; area = kept }) (record { journal = other .journal; area = left }) merged mine′ others′ rows′
+    unfolding afterEntry
+    admitted after kept left merged mine′ others′ rows′ j k m l o q r = record {
+      own-half = λ i. record { journal = j i; area = k i };
+      other-half = λ i. record { journal = other .journal; area = l i };
+      count = q;
+      mine-rows = m;
+      others-rows = o;
+      queue-rows = r;
+    }
+
+-- ---- the state as a side sees it
+
+module _ (s : State) (ok : Sound s) where
+  sound-queue : queue.soundQueue (s .join .a .journal .accepted) (s .join .b .journal .accepted) (s .join .queue) (s .rows) ≡ true
+  unfolding sound
+  sound-queue = and-right (area.soundArea (s .join .b .journal) (s .join .a .journal .gate) (s .join .b .area) (s .inB)) _ (and-right (area.soundArea (s .join .a .journal) (s .join .b .journal .gate) (s .join .a .area) (s .inA)) _ (and-right (leb (s .join .b .journal .accepted) entries) _ (and-right (leb (s .join .a .journal .accepted) entries) _ (ok .judged))))
+
+  sound-a : area.soundArea (s .join .a .journal) (s .join .b .journal .gate) (s .join .a .area) (s .inA) ≡ true
+  unfolding sound
+  sound-a = and-left _ _ (and-right (leb (s .join .b .journal .accepted) entries) _ (and-right (leb (s .join .a .journal .accepted) entries) _ (ok .judged)))
+
+  sound-b : area.soundArea (s .join .b .journal) (s .join .a .journal .gate) (s .join .b .area) (s .inB) ≡ true
+  unfolding sound
+  sound-b = and-left _ _ (and-right (area.soundArea (s .join .a .journal) (s .join .b .journal .gate) (s .join .a .area) (s .inA)) _ (and-right (leb (s .join .b .journal .accepted) entries) _ (and-right (leb (s .join .a .journal .accepted) entries) _ (ok .judged))))
+
+  -- the waiting pairs of a sound state are in order
+  pub sound-order : chain comesBefore (queue.waiting (s .join .queue) (s .rows)) ≡ true
+  sound-order = queue-laws.sound-in-order (s .join .a .journal .accepted) (s .join .b .journal .accepted) (s .join .queue) (s .rows) sound-queue
+
+  -- a sound state stands, seen from either side
+  pub stand-a : Stand (s .join .a) (s .join .b) (s .join .queue) (s .inA) (s .inB) (s .rows)
+  stand-a = record {
+    holds-mine = ok .holdsA;
+    holds-others = ok .holdsB;
+    holds-rows = ok .holdsQueue;
+    others-follow = area-laws.sound-follows (s .join .b .journal) (s .join .a .journal .gate) (s .join .b .area) (s .inB) sound-b;
+    in-order = sound-order;
+  }
+
+  pub stand-b : Stand (s .join .b) (s .join .a) (s .join .queue) (s .inB) (s .inA) (s .rows)
+  stand-b = record {
+    holds-mine = ok .holdsB;
+    holds-others = ok .holdsA;
+    holds-rows = ok .holdsQueue;
+    others-follow = area-laws.sound-follows (s .join .a .journal) (s .join .b .journal .gate) (s .join .a .area) (s .inA) sound-a;
+    in-order = sound-order;
+  }
+
+-- what halves, a queue and places store is the state that the side sees
+module _ (rule : Rule) (v : View) (same : v .rule ≡ rule) (own other : Half) (waiting : Queue) (mine others rows : Rows) (l : Leaves v own other waiting mine others rows) where
+  pub state-a : stateWith (record { rule = rule; a = own; b = other; queue = waiting }) mine others rows ≡ stateOf A v
+  unfolding stateOf
+  state-a = λ i. record {
+    join = record { rule = sym same i; a = l .own-half i; b = l .other-half i; queue = l .count i };
+    inA = l .mine-rows i;
+    inB = l .others-rows i;
+    rows = l .queue-rows i;
+  }
+
+  pub state-b : stateWith (record { rule = rule; a = other; b = own; queue = waiting }) others mine rows ≡ stateOf B v
+  unfolding stateOf
+  state-b = λ i. record {
+    join = record { rule = sym same i; a = l .other-half i; b = l .own-half i; queue = l .count i };
+    inA = l .others-rows i;
+    inB = l .mine-rows i;
+    rows = l .queue-rows i;
+  }
+
+-- a sound state is the one that each side sees
+pub same-state : (side : Side) (s : State) → Sound s → stateOf side (view side s) ≡ s
+unfolding view
+same-state A s ok = sym (state-a (s .join .rule) (view A s) refl (s .join .a) (s .join .b) (s .join .queue) (s .inA) (s .inB) (s .rows) (leaves-all (s .join .rule) A (s .join .a) (s .join .b) (s .join .queue) (s .inA) (s .inB) (s .rows) (stand-a s ok)))
+same-state B s ok = sym (state-b (s .join .rule) (view B s) refl (s .join .b) (s .join .a) (s .join .queue) (s .inB) (s .inA) (s .rows) (leaves-all (s .join .rule) B (s .join .b) (s .join .a) (s .join .queue) (s .inB) (s .inA) (s .rows) (stand-b s ok)))
+
+-- an answer, and the state that a side sees after it, are those of the call
+pub called-seen : (side : Side) (s : State) → Sound s → (rows : List Row) (after : View) (answer : Answer) → answer ≡ firstOf rows
+    → outcome answer (stateOf side (unlessRefused answer after (view side s))) ≡ called s rows (stateOf side after)
+called-seen side s ok rows after answer e = ap (λ (a : Answer). outcome a (stateOf side (unlessRefused a after (view side s)))) e ∙ ap (outcome (firstOf rows)) (go (firstOf rows))
+  where
+    go : (a : Answer) → stateOf side (unlessRefused a after (view side s)) ≡ unlessRefused a (stateOf side after) s
+    go Accepted = refl
+    go (Refused number) = same-state side s ok
+
+-- the rule never changes
+pub rule-kept : (answer : Answer) (v after : View) → after .rule ≡ v .rule → unlessRefused answer after v .rule ≡ v .rule
+rule-kept Accepted v after e = e
+rule-kept (Refused number) v after e = refl
+
+pub entry-rule : (side : Side) (v : View) (e : Entry) → afterEntry side v e .rule ≡ v .rule
+unfolding afterEntry
+entry-rule side v e = refl
+
+-- what `enter` answers and leaves of the halves, A's first or B's first, is what the call of that side says
+module _ (s : State) (ok : Sound s) (e : Entry) (answer : Answer) (own other : Half) (waiting : Queue) (mine others rows : Rows) where
+  pub entered-a : (side : Side) → side ≡ A → answer ≡ firstOf (entryRows side (view A s) e) → Leaves (unlessRefused answer (afterEntry side (view A s) e) (view A s)) own other waiting mine others rows
+      → outcome answer (stateWith (record { rule = view A s .rule; a = own; b = other; queue = waiting }) mine others rows) ≡ entryOn s side e
+  entered-a side turn f l =
+      rw turn
+      (ap (outcome answer) (state-a (view A s .rule) (unlessRefused answer (afterEntry A (view A s) e) (view A s)) (rule-kept answer (view A s) (afterEntry A (view A s) e) (entry-rule A (view A s) e)) own other waiting mine others rows (rw turn at l))
+      ∙ called-seen A s ok (entryRows A (view A s) e) (afterEntry A (view A s) e) answer (rw turn at f))
+
+  pub entered-b : (side : Side) → side ≡ B → answer ≡ firstOf (entryRows side (view B s) e) → Leaves (unlessRefused answer (afterEntry side (view B s) e) (view B s)) own other waiting mine others rows
+      → outcome answer (stateWith (record { rule = view B s .rule; a = other; b = own; queue = waiting }) others mine rows) ≡ entryOn s side e
+  entered-b side turn f l =
+      rw turn
+      (ap (outcome answer) (state-b (view B s .rule) (unlessRefused answer (afterEntry B (view B s) e) (view B s)) (rule-kept answer (view B s) (afterEntry B (view B s) e) (entry-rule B (view B s) e)) own other waiting mine others rows (rw turn at l))
+      ∙ called-seen B s ok (entryRows B (view B s) e) (afterEntry B (view B s) e) answer (rw turn at f))
