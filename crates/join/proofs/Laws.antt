@@ -5,7 +5,8 @@ use mathlib.Core.Bool.{Bool, true, false, cond, not, _&&_, false≢true}
 use mathlib.Core.List.{List, [], _∷_, _++_, append-nil, map}
 use mathlib.Core.Path.{_≡_, refl, sym, ap, _∙_}
 use lib.Dec.{ltb, leb}
-use lib.ListN.{length, length-map}
+use lib.ListN.{length, drop, getD, length-map}
+use lib.Seq.{drop-cons}
 use borrow.Author.Tests.{ltb-true, leb-true, leb-false, le-ltb, lt-ltb, lt-leb, le-leb}
 use Rattle.interval.specs.Interval.{properOf}
 use Rattle.lists.specs.Judge.{chain}
@@ -31,7 +32,7 @@ use Rattle.journal.specs.declared.Gate.{Gate}
 use Rattle.journal.specs.declared.Gate.the-variants.{Open}
 use Rattle.journal.specs.declared.Journal.{Journal}
 use Rattle.journal.specs.Answer.{Row, _gives_, firstOf, unlessRefused}
-use Rattle.journal.specs.Journal.{wanted, isClosed, isBehind, entered}
+use Rattle.journal.specs.Journal.{wanted, isClosed, isBehind, moved, entered}
 use Rattle.area.specs.declared.Area.{Area}
 use Rattle.area.specs.Area as area
 use Rattle.area.proofs.Laws as area-laws
@@ -39,8 +40,9 @@ use Rattle.queue.specs.declared.Queue.{Queue}
 use Rattle.queue.specs.Queue as queue
 use Rattle.queue.proofs.Laws as queue-laws
 use Rattle.join.specs.declared.Half.{Half}
-use Rattle.join.specs.State.{State, View, Sound, Stand, Leaves, sound, entries, stateWith, seen, view, stateOf}
-use Rattle.join.specs.Calls.{outcome, called, arrival, formed, entryRows, afterEntry, entryOn}
+use Rattle.join.specs.declared.Took.the-variants.{Handed, Waiting, Finished}
+use Rattle.join.specs.State.{State, View, Sound, Stand, Leaves, sound, entries, stateWith, seen, journalOf, halfOf, view, stateOf}
+use Rattle.join.specs.Calls.{outcome, called, arrival, formed, entryRows, afterEntry, entryOn, afterMove, judgeRows, waitingIn, readyIn, bothClosed, afterTake, takeOn, without}
 
 -- ---- the new pairs of an entry
 
@@ -280,3 +282,91 @@ module _ (s : State) (ok : Sound s) (e : Entry) (answer : Answer) (own other : H
       rw turn
       (ap (outcome answer) (state-b (view B s .rule) (unlessRefused answer (afterEntry B (view B s) e) (view B s)) (rule-kept answer (view B s) (afterEntry B (view B s) e) (entry-rule B (view B s) e)) own other waiting mine others rows (rw turn at l))
       ∙ called-seen B s ok (entryRows B (view B s) e) (afterEntry B (view B s) e) answer (rw turn at f))
+
+-- ---- a gate that moves
+
+module _ (rule : Rule) (side : Side) (own other : Half) (waiting : Queue) (mine others rows : Rows) (stand : Stand own other waiting mine others rows) (gate : Gate) (own′ other′ : Half) (others′ : Rows) where
+  shifted : own′ .journal ≡ moved gate (own .journal) → own′ .area ≡ own .area → other′ ≡ halfOf (other .journal) (area.wantedBy gate (area.held (other .area) others))
+      → others′ ≡ area.rowsOf (area.wantedBy gate (area.held (other .area) others)) → Leaves (afterMove gate (seen rule own other waiting mine others rows)) own′ other′ waiting mine others′ rows
+  unfolding afterMove
+  shifted j k o r =
+      let all = leaves-all rule side own other waiting mine others rows stand in
+      let same = k ∙ ap (λ (h : Half). h .area) (all .own-half) in
+      record { own-half = λ i. record { journal = j i; area = same i }; other-half = o; count = all .count; mine-rows = all .mine-rows; others-rows = r; queue-rows = all .queue-rows }
+
+move-rule : (gate : Gate) (v : View) → afterMove gate v .rule ≡ v .rule
+unfolding afterMove
+move-rule gate v = refl
+
+module _ (s : State) (ok : Sound s) (gate : Gate) (own other : Half) (others : Rows) (side : Side) where
+  pub moved-a : side ≡ A → own .journal ≡ moved gate (s .join .a .journal) → own .area ≡ s .join .a .area → other ≡ halfOf (s .join .b .journal) (area.wantedBy gate (area.held (s .join .b .area) (s .inB)))
+      → others ≡ area.rowsOf (area.wantedBy gate (area.held (s .join .b .area) (s .inB)))
+      → stateWith (record { rule = s .join .rule; a = own; b = other; queue = s .join .queue }) (s .inA) others (s .rows) ≡ stateOf side (afterMove gate (view side s))
+  unfolding view
+  moved-a turn j k o r =
+      rw turn
+      (state-a (s .join .rule) (afterMove gate (view A s)) (move-rule gate (view A s)) own other (s .join .queue) (s .inA) others (s .rows)
+      (shifted (s .join .rule) A (s .join .a) (s .join .b) (s .join .queue) (s .inA) (s .inB) (s .rows) (stand-a s ok) gate own other others j k o r))
+
+  pub moved-b : side ≡ B → own .journal ≡ moved gate (s .join .b .journal) → own .area ≡ s .join .b .area → other ≡ halfOf (s .join .a .journal) (area.wantedBy gate (area.held (s .join .a .area) (s .inA)))
+      → others ≡ area.rowsOf (area.wantedBy gate (area.held (s .join .a .area) (s .inA)))
+      → stateWith (record { rule = s .join .rule; a = other; b = own; queue = s .join .queue }) others (s .inB) (s .rows) ≡ stateOf side (afterMove gate (view side s))
+  unfolding view
+  moved-b turn j k o r =
+      rw turn
+      (state-b (s .join .rule) (afterMove gate (view B s)) (move-rule gate (view B s)) own other (s .join .queue) (s .inB) others (s .rows)
+      (shifted (s .join .rule) B (s .join .b) (s .join .a) (s .join .queue) (s .inB) (s .inA) (s .rows) (stand-b s ok) gate own other others j k o r))
+
+-- the journal that a side sees as its own
+pub view-own : (side : Side) (s : State) → view side s .own ≡ journalOf side (s .join)
+unfolding view
+view-own A s = refl
+view-own B s = refl
+
+-- ---- what rows answer
+
+module _ (s : State) (rows : List Row) (next : State) (answer : Answer) (e : answer ≡ firstOf rows) where
+  pub called-refused : (number : ℕ) → answer ≡ Refused number → outcome answer s ≡ called s rows next
+  called-refused number f = rw (← e, f)
+
+  pub called-accepted : (after : State) → answer ≡ Accepted → after ≡ next → outcome answer after ≡ called s rows next
+  called-accepted after f g = rw (← e, f, g)
+
+module _ (s : State) (stream : ℕ) (rows : List Row) (next : State) where
+  pub judged-unsound : sound s ≡ false → outcome (Refused 8) s ≡ called s (judgeRows s stream ++ rows) next
+  judged-unsound e = rw e
+
+  pub judged-neither : sound s ≡ true → 1 < stream → outcome (Refused 1) s ≡ called s (judgeRows s stream ++ rows) next
+  judged-neither e h = rw (e, lt-ltb 1 stream h)
+
+  pub judged-sound : sound s ≡ true → stream ≤ 1 → called s rows next ≡ called s (judgeRows s stream ++ rows) next
+  judged-sound e h = rw (e, le-ltb 1 stream h)
+
+-- ---- a take
+
+module _ (s : State) (h : queue.Holds (s .join .queue) (s .rows)) where
+  pub none-waits : s .join .queue .count ≡ 0 → waitingIn s ≡ []
+  none-waits e = rw e
+
+  pub one-waits : 0 < s .join .queue .count → waitingIn s ≡ getD (waitingIn s) 0 (queue.pairIn []) ∷ drop 1 (waitingIn s)
+  one-waits few = drop-cons (waitingIn s) 0 (queue.pairIn []) (omega (arith, content-length queue.pairIn queue.rowOf queue.places 8 (s .join .queue .count) (s .rows) h))
+
+pub take-none : (s : State) (closed : Bool) → closed ≡ bothClosed s → waitingIn s ≡ [] → outcome (cond closed Finished Waiting) s ≡ takeOn s
+take-none s closed e f = rw (f, ← e) (go closed)
+  where
+    go : (b : Bool) → outcome (cond b Finished Waiting) s ≡ outcome (cond b Finished Waiting) (afterTake (cond b Finished Waiting) s)
+    go true = refl
+    go false = refl
+
+module _ (s : State) (p : Pair) (ps : List Pair) (e : waitingIn s ≡ p ∷ ps) where
+  pub take-waits : readyIn s p ≡ false → outcome Waiting s ≡ takeOn s
+  take-waits f = rw (e, f)
+
+  take-hands : readyIn s p ≡ true → outcome (Handed p) (without 1 s) ≡ takeOn s
+  take-hands f = rw (e, f)
+
+-- the first waiting pair, which is ready, and the state without it
+pub take-first : (s : State) → queue.Holds (s .join .queue) (s .rows) → 0 < s .join .queue .count → (p : Pair) (left : State) → p ≡ getD (waitingIn s) 0 (queue.pairIn []) → left ≡ without 1 s → readyIn s p ≡ true
+    → outcome (Handed p) left ≡ takeOn s
+take-first s h few p left e f g =
+    (λ i. outcome (Handed (e i)) (f i)) ∙ take-hands s (getD (waitingIn s) 0 (queue.pairIn [])) (drop 1 (waitingIn s)) (one-waits s h few) (ap (readyIn s) (sym e) ∙ g)

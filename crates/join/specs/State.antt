@@ -75,6 +75,11 @@ unfoldable pub view : Side → State → View
 view A s = seen (s .join .rule) (s .join .a) (s .join .b) (s .join .queue) (s .inA) (s .inB) (s .rows)
 view B s = seen (s .join .rule) (s .join .b) (s .join .a) (s .join .queue) (s .inB) (s .inA) (s .rows)
 
+-- the journal of a side
+abbrev pub journalOf : Side → Join → Journal
+journalOf A join = join .a .journal
+journalOf B join = join .b .journal
+
 -- a half that holds some entries
 abbrev pub halfOf : Journal → List Numbered → Half
 halfOf journal xs = record { journal = journal; area = area.areaOf xs }

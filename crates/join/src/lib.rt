@@ -19,13 +19,14 @@ ghost use lib.ListN.{length};
 ghost use Rattle.interval.specs.Interval.{properOf};
 ghost use Rattle.lists.specs.Judge.{chain};
 ghost use Rattle.lists.specs.Keep.{keep};
+ghost use Rattle.lists.specs.Store.{Rows};
 ghost use Rattle.pairing.specs.Pair.{comesBefore};
 ghost use Rattle.journal.specs.Answer.{_gives_, firstOf, unlessRefused};
 ghost use Rattle.journal.specs.Journal.{wanted, isClosed, isBehind, moved};
 ghost use Rattle.area.specs.Area as the_area;
 ghost use Rattle.queue.specs.Queue as the_queue;
-ghost use Rattle.join.specs.State.{State, Sound, entries, sound, stateWith, freshState, seen, halfOf, Stand, Leaves};
-ghost use Rattle.join.specs.Calls.{outcome, sideOf, entryRows, afterEntry, entryOn, markOn, closeOn, takeOn, entryCall, markCall, closeCall, takeCall, readyIn, waitingIn, without};
+ghost use Rattle.join.specs.State.{Sound, Stand, Leaves, entries, sound, stateWith, freshState, seen, journalOf, halfOf, view, stateOf};
+ghost use Rattle.join.specs.Calls.{outcome, sideOf, entryRows, afterEntry, afterMove, entryOn, markOn, closeOn, takeOn, entryCall, markCall, closeCall, takeCall, without};
 
 // A journal, and how much its area holds.
 pub struct Half {
@@ -323,5 +324,240 @@ impl Join {
                 }
             }
         }
+    }
+
+    fn journal_of(self, side: Side) -> Journal
+        ensures { λ r. ⌜ r ≡ journalOf side self ⌝ }
+    {
+        let half_a = self.a;
+        let half_b = self.b;
+        match side {
+            Side::A => half_a.journal,
+            Side::B => half_b.journal,
+        }
+    }
+
+    // The gate of a side moved, and the other side's area cleared by it.
+    fn move_on(self, a: &mut area::Places, b: &mut area::Places, side: Side, gate: Gate) -> Join
+        requires { ⌜ (the_area.Holds (self .a .area) (now a)) × (the_area.Holds (self .b .area) (now b)) ⌝ }
+        ensures { λ r. ⌜ ((rows : Rows) → Sound (stateWith self (now (a .entry)) (now (b .entry)) rows) → stateWith r (now (a .exit)) (now (b .exit)) rows ≡ stateOf side (afterMove gate (view side (stateWith self (now (a .entry)) (now (b .entry)) rows)))) ⌝ }
+    {
+        let rule = self.rule;
+        let half_a = self.a;
+        let half_b = self.b;
+        let queue = self.queue;
+        match side {
+            Side::A => {
+                let h = shift(half_a, half_b, b, gate);
+                let own = h.own;
+                let other = h.other;
+                Join {
+                    rule,
+                    a: own,
+                    b: other,
+                    queue,
+                }
+            }
+            Side::B => {
+                let h = shift(half_b, half_a, a, gate);
+                let own = h.own;
+                let other = h.other;
+                Join {
+                    rule,
+                    a: other,
+                    b: own,
+                    queue,
+                }
+            }
+        }
+    }
+
+    pub fn mark_on(
+        self,
+        a: &mut area::Places,
+        b: &mut area::Places,
+        side: Side,
+        time: u32,
+    ) -> Called
+        requires { ⌜ (the_area.Holds (self .a .area) (now a)) × (the_area.Holds (self .b .area) (now b)) ⌝ }
+        ensures { λ r. ⌜ ((rows : Rows) → Sound (stateWith self (now (a .entry)) (now (b .entry)) rows) → outcome (r .answer) (stateWith (r .join) (now (a .exit)) (now (b .exit)) rows) ≡ markOn (stateWith self (now (a .entry)) (now (b .entry)) rows) side time) ⌝ }
+    {
+        let journal = self.journal_of(side);
+        let marked = journal.mark(time);
+        let answer = marked.answer;
+        let Answer::Accepted = answer else {
+            return Called { answer, join: self };
+        };
+        let join = self.move_on(a, b, side, Gate::Open(time));
+        Called { answer, join }
+    }
+
+    pub fn close_on(self, a: &mut area::Places, b: &mut area::Places, side: Side) -> Called
+        requires { ⌜ (the_area.Holds (self .a .area) (now a)) × (the_area.Holds (self .b .area) (now b)) ⌝ }
+        ensures { λ r. ⌜ ((rows : Rows) → Sound (stateWith self (now (a .entry)) (now (b .entry)) rows) → outcome (r .answer) (stateWith (r .join) (now (a .exit)) (now (b .exit)) rows) ≡ closeOn (stateWith self (now (a .entry)) (now (b .entry)) rows) side) ⌝ }
+    {
+        let journal = self.journal_of(side);
+        let gate = journal.gate;
+        if gate.closed() {
+            return Called {
+                answer: Answer::Refused(2),
+                join: self,
+            };
+        }
+        let join = self.move_on(a, b, side, Gate::Closed);
+        Called {
+            answer: Answer::Accepted,
+            join,
+        }
+    }
+
+    pub fn take_on(self, rows: &mut queue::Places) -> Taken
+        requires { ⌜ the_queue.Holds (self .queue) (now rows) ⌝ }
+        ensures { λ r. ⌜ ((inA inB : Rows) → outcome (r .answer) (stateWith (r .join) inA inB (now (rows .exit))) ≡ takeOn (stateWith self inA inB (now (rows .entry)))) ⌝ }
+    {
+        let journal_a = self.a.journal;
+        let gate_a = journal_a.gate;
+        let journal_b = self.b.journal;
+        let gate_b = journal_b.gate;
+        let waiting = self.queue;
+        if waiting.count == 0 {
+            if gate_a.closed() && gate_b.closed() {
+                return Taken {
+                    answer: Took::Finished,
+                    join: self,
+                };
+            }
+            return Taken {
+                answer: Took::Waiting,
+                join: self,
+            };
+        }
+        let p = waiting.first(rows);
+        if !is_ready(p, gate_a, gate_b) {
+            return Taken {
+                answer: Took::Waiting,
+                join: self,
+            };
+        }
+        let join = self.drop_on(rows, 1);
+        Taken {
+            answer: Took::Handed(p),
+            join,
+        }
+    }
+
+    // How many waiting pairs are ready. They are the first ones.
+    pub fn ready_on(self, rows: &queue::Places) -> usize
+        requires { ⌜ (the_queue.Holds (self .queue) (now rows)) × (chain comesBefore (the_queue.waiting (self .queue) (now rows)) ≡ true) ⌝ }
+        ensures { λ r. ⌜ r ≡ length (keep (the_queue.ready (self .a .journal .gate) (self .b .journal .gate)) (the_queue.waiting (self .queue) (now (rows .entry)))) ⌝ }
+    {
+        let journal_a = self.a.journal;
+        let gate_a = journal_a.gate;
+        let journal_b = self.b.journal;
+        let gate_b = journal_b.gate;
+        let waiting = self.queue;
+        waiting.ready(rows, gate_a, gate_b)
+    }
+
+    // The first k waiting pairs dropped at once: k takes, where they are ready.
+    pub fn drop_on(self, rows: &mut queue::Places, k: usize) -> Join
+        requires { ⌜ (k ≤ self .queue .count) × (the_queue.Holds (self .queue) (now rows)) ⌝ }
+        ensures { λ r. ⌜ ((inA inB : Rows) → stateWith r inA inB (now (rows .exit)) ≡ without k (stateWith self inA inB (now (rows .entry)))) ⌝ }
+    {
+        let rule = self.rule;
+        let a = self.a;
+        let b = self.b;
+        let waiting = self.queue;
+        let queue = waiting.drop_first(rows, k);
+        Join { rule, a, b, queue }
+    }
+}
+
+// The calls on a join, each of which judges the state first.
+impl Join {
+    pub fn entry(
+        self,
+        a: &mut area::Places,
+        b: &mut area::Places,
+        rows: &mut queue::Places,
+        stream: u16,
+        e: Entry,
+    ) -> Called
+        ensures { λ r. ⌜ outcome (r .answer) (stateWith (r .join) (now (a .exit)) (now (b .exit)) (now (rows .exit))) ≡ entryCall (stateWith self (now (a .entry)) (now (b .entry)) (now (rows .entry))) stream e ⌝ }
+    {
+        if !self.sound(a, b, rows) {
+            return Called {
+                answer: Answer::Refused(8),
+                join: self,
+            };
+        }
+        if 1 < stream {
+            return Called {
+                answer: Answer::Refused(1),
+                join: self,
+            };
+        }
+        self.entry_on(a, b, rows, side_of(stream), e)
+    }
+
+    pub fn mark(
+        self,
+        a: &mut area::Places,
+        b: &mut area::Places,
+        rows: &queue::Places,
+        stream: u16,
+        time: u32,
+    ) -> Called
+        ensures { λ r. ⌜ outcome (r .answer) (stateWith (r .join) (now (a .exit)) (now (b .exit)) (now (rows .entry))) ≡ markCall (stateWith self (now (a .entry)) (now (b .entry)) (now (rows .entry))) stream time ⌝ }
+    {
+        if !self.sound(a, b, rows) {
+            return Called {
+                answer: Answer::Refused(8),
+                join: self,
+            };
+        }
+        if 1 < stream {
+            return Called {
+                answer: Answer::Refused(1),
+                join: self,
+            };
+        }
+        self.mark_on(a, b, side_of(stream), time)
+    }
+
+    pub fn close(
+        self,
+        a: &mut area::Places,
+        b: &mut area::Places,
+        rows: &queue::Places,
+        stream: u16,
+    ) -> Called
+        ensures { λ r. ⌜ outcome (r .answer) (stateWith (r .join) (now (a .exit)) (now (b .exit)) (now (rows .entry))) ≡ closeCall (stateWith self (now (a .entry)) (now (b .entry)) (now (rows .entry))) stream ⌝ }
+    {
+        if !self.sound(a, b, rows) {
+            return Called {
+                answer: Answer::Refused(8),
+                join: self,
+            };
+        }
+        if 1 < stream {
+            return Called {
+                answer: Answer::Refused(1),
+                join: self,
+            };
+        }
+        self.close_on(a, b, side_of(stream))
+    }
+
+    pub fn take(self, a: &area::Places, b: &area::Places, rows: &mut queue::Places) -> Taken
+        ensures { λ r. ⌜ outcome (r .answer) (stateWith (r .join) (now (a .entry)) (now (b .entry)) (now (rows .exit))) ≡ takeCall (stateWith self (now (a .entry)) (now (b .entry)) (now (rows .entry))) ⌝ }
+    {
+        if !self.sound(a, b, rows) {
+            return Taken {
+                answer: Took::Refused(8),
+                join: self,
+            };
+        }
+        self.take_on(rows)
     }
 }
