@@ -1,0 +1,42 @@
+-- Laws of a table's rows: what it takes to be accepted, and which numbers can be given.
+use Prim.Native.Nat.{ℕ}
+use native.Mathlib.Omega.{arith}
+use mathlib.Core.Bool.{Bool, true, false, cond}
+use mathlib.Core.List.{List, [], _∷_}
+use mathlib.Core.Path.{_≡_, refl}
+use Rattle.lists.proofs.All.{All}
+use Rattle.journal.specs.declared.Answer.{Answer}
+use Rattle.journal.specs.declared.Answer.the-variants.{Accepted, Refused}
+use Rattle.journal.specs.Answer.{numberOf, Row, firstOf, unlessRefused}
+
+-- where a call is accepted, no row applies
+pub accepted-rows : (rows : List Row) → firstOf rows ≡ Accepted → All (λ (row : Row). row .when ≡ false) rows
+accepted-rows [] e = tt
+accepted-rows (row ∷ rows) e = go (row .when) refl e (accepted-rows rows)
+  where
+    never : (n : ℕ) → Refused n ≡ Accepted → ⊥
+    never n f = let z : _≡_ {A = ℕ} 0 1 = cc in omega arith
+
+    go : (b : Bool) → row .when ≡ b → cond b (Refused (row .number)) (firstOf rows) ≡ Accepted
+        → (firstOf rows ≡ Accepted → All (λ (r : Row). r .when ≡ false) rows) → (row .when ≡ false) × All (λ (r : Row). r .when ≡ false) rows
+    go true w f rest = absurd (never (row .number) f)
+    go false w f rest = (w, rest f)
+
+-- where no row applies, a call is accepted
+pub rows-accepted : (rows : List Row) → All (λ (row : Row). row .when ≡ false) rows → firstOf rows ≡ Accepted
+rows-accepted [] h = refl
+rows-accepted (row ∷ rows) h = rw (h .0) (rows-accepted rows (h .1))
+
+-- what holds of 0 and of the number of every row that applies holds of the answer's number
+pub number-rows : (P : ℕ → Type 0) (rows : List Row) → P 0 → All (λ (row : Row). row .when ≡ true → P (row .number)) rows → P (numberOf (firstOf rows))
+number-rows P [] none h = none
+number-rows P (row ∷ rows) none h = go (row .when) refl (number-rows P rows none (h .1))
+  where
+    go : (b : Bool) → row .when ≡ b → P (numberOf (firstOf rows)) → P (numberOf (cond b (Refused (row .number)) (firstOf rows)))
+    go true w rest = h .0 w
+    go false w rest = rest
+
+-- what holds of the old and, if a call is accepted, of the new, holds after the call
+pub unless-refused : {A : Type 0} (P : A → Type 0) (answer : Answer) (new old : A) → (answer ≡ Accepted → P new) → P old → P (unlessRefused answer new old)
+unless-refused P Accepted new old f h = f refl
+unless-refused P (Refused number) new old f h = h
