@@ -118,6 +118,10 @@ module _ (own : Journal) (other : Gate) where
 
 -- ---- kept
 
+-- an entry that comes, with its ordinal
+abbrev pub arriving : Journal → Entry → Numbered
+arriving own e = record { entry = e; ordinal = own .accepted }
+
 module _ (own : Journal) (other : Gate) (xs : List Numbered) (h : SoundHeld own other xs) where
   -- its journal's gate moves onward
   pub held-moved : (gate : Gate) → Onward (own .gate) gate → SoundHeld (moved gate own) other xs
@@ -141,25 +145,22 @@ module _ (own : Journal) (other : Gate) (xs : List Numbered) (h : SoundHeld own 
 
   -- an entry comes, and is held if wanted
   module _ (e : Entry) (proper : properOf (e .span) ≡ true) (on : Onward (own .gate) (Open (e .span .start))) where
-    abbrev new : Numbered
-    new = record { entry = e; ordinal = own .accepted }
-
     still : All (SoundEntry (entered e own) other) xs
     still = all-map (SoundEntry own other) (SoundEntry (entered e own) other)
         (λ x s. record { proper = s .proper; needed = s .needed; numbered = omega (arith, s .numbered); started = notPast-onward (own .gate) (Open (e .span .start)) on (x .entry .span .start) (s .started) }) xs (h .sounds)
 
     -- the new one is later than all
-    before-new : (x : Numbered) → SoundEntry own other x → Later x new
+    before-new : (x : Numbered) → SoundEntry own other x → Later x (arriving own e)
     before-new x s = (s .numbered, leb-true (x .entry .span .start) (e .span .start) (notPast-onward (own .gate) (Open (e .span .start)) on (x .entry .span .start) (s .started)))
 
-    pub held-entered : (wanted other e ≡ true → length xs < places) → SoundHeld (entered e own) other (xs ++ wantedBy other (new ∷ []))
+    pub held-entered : (wanted other e ≡ true → length xs < places) → SoundHeld (entered e own) other (xs ++ wantedBy other (arriving own e ∷ []))
     held-entered room = go (wanted other e) refl
       where
-        go : (b : Bool) → wanted other e ≡ b → SoundHeld (entered e own) other (xs ++ cond b (new ∷ []) [])
+        go : (b : Bool) → wanted other e ≡ b → SoundHeld (entered e own) other (xs ++ cond b (arriving own e ∷ []) [])
         go true w = record {
-          few = omega (arith, room w, length-append xs (new ∷ []));
-          sounds = all-append (SoundEntry (entered e own) other) xs (new ∷ []) still
+          few = omega (arith, room w, length-append xs (arriving own e ∷ []));
+          sounds = all-append (SoundEntry (entered e own) other) xs (arriving own e ∷ []) still
               (record { proper = proper; needed = w; numbered = omega arith; started = le-leb (e .span .start) (e .span .start) (omega arith) }, tt);
-          laters = each-append Later xs (new ∷ []) (h .laters) (tt, tt) (all-map (SoundEntry own other) (λ (x : Numbered). All (Later x) (new ∷ [])) (λ x s. (before-new x s, tt)) xs (h .sounds));
+          laters = each-append Later xs (arriving own e ∷ []) (h .laters) (tt, tt) (all-map (SoundEntry own other) (λ (x : Numbered). All (Later x) (arriving own e ∷ [])) (λ x s. (before-new x s, tt)) xs (h .sounds));
         }
         go false w = rw (append-nil xs) (record { few = h .few; sounds = still; laters = h .laters })

@@ -4,7 +4,9 @@ use native.Mathlib.Omega.{arith}
 use mathlib.Core.Bool.{Bool, true, false, cond}
 use mathlib.Core.List.{List, [], _∷_}
 use mathlib.Core.Path.{_≡_, refl}
+use Rattle.lists.specs.Judge.{allOf}
 use Rattle.lists.proofs.All.{All}
+use Rattle.lists.proofs.Bools.{and-left, and-right}
 use Rattle.journal.specs.declared.Answer.{Answer}
 use Rattle.journal.specs.declared.Answer.the-variants.{Accepted, Refused}
 use Rattle.journal.specs.Answer.{numberOf, Row, firstOf, unlessRefused}
@@ -27,14 +29,14 @@ pub rows-accepted : (rows : List Row) → All (λ (row : Row). row .when ≡ fal
 rows-accepted [] h = refl
 rows-accepted (row ∷ rows) h = rw (h .0) (rows-accepted rows (h .1))
 
--- what holds of 0 and of the number of every row that applies holds of the answer's number
-pub number-rows : (P : ℕ → Type 0) (rows : List Row) → P 0 → All (λ (row : Row). row .when ≡ true → P (row .number)) rows → P (numberOf (firstOf rows))
-number-rows P [] none h = none
-number-rows P (row ∷ rows) none h = go (row .when) refl (number-rows P rows none (h .1))
+-- a test that passes 0 and the number of every row passes the answer's number
+pub number-rows : (p : ℕ → Bool) (rows : List Row) → p 0 ≡ true → allOf (λ (row : Row). p (row .number)) rows ≡ true → p (numberOf (firstOf rows)) ≡ true
+number-rows p [] none e = none
+number-rows p (row ∷ rows) none e = go (row .when) (number-rows p rows none (and-right (p (row .number)) _ e))
   where
-    go : (b : Bool) → row .when ≡ b → P (numberOf (firstOf rows)) → P (numberOf (cond b (Refused (row .number)) (firstOf rows)))
-    go true w rest = h .0 w
-    go false w rest = rest
+    go : (b : Bool) → p (numberOf (firstOf rows)) ≡ true → p (numberOf (cond b (Refused (row .number)) (firstOf rows))) ≡ true
+    go true rest = and-left (p (row .number)) _ e
+    go false rest = rest
 
 -- what holds of the old and, if a call is accepted, of the new, holds after the call
 pub unless-refused : {A : Type 0} (P : A → Type 0) (answer : Answer) (new old : A) → (answer ≡ Accepted → P new) → P old → P (unlessRefused answer new old)

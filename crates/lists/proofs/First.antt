@@ -54,3 +54,13 @@ module _ {A : Type 0} (p : A → Bool) where
             keep-none p xs (fail e),
             keep-all (λ (y : A). not (p y)) xs (all-map (λ (y : A). p y ≡ false) (λ (y : A). not (p y) ≡ true) (λ y f. ap not f) xs (fail e)),
           )
+
+  -- the first that passes is the first of all
+  pub keep-head : (y : A) (ys : List A) → Each Down (y ∷ ys) → (x : A) (xs : List A) → keep p (y ∷ ys) ≡ x ∷ xs → p y ≡ true
+  keep-head y ys h x xs e = go (p y) refl e
+    where
+      go : (b : Bool) → p y ≡ b → cond b (y ∷ keep p ys) (keep p ys) ≡ x ∷ xs → p y ≡ true
+      go true s f = s
+      go false s f =
+          let none : keep p ys ≡ [] = keep-none p ys (all-map (Down y) (λ (z : A). p z ≡ false) (λ z i. fails y z s i) ys (h .0)) in
+          cc

@@ -128,6 +128,14 @@ sound-holds ofA ofB queue rows shaped e =
     let spare = and-right (chain comesBefore (waiting queue rows)) _ (and-right (allOf (soundPair ofA ofB) (waiting queue rows)) _ rest) in
     stores-judged pairIn rowOf places 8 isBlank row-pair blank-row (queue .count) rows shaped (leb-true (queue .count) places (and-left _ _ e)) spare
 
+-- a pair before a ready one is ready
+pub ready-down : (a b : Gate) (p q : Pair) → comesBefore p q ≡ true → Down (ready a b) p q
+unfolding ready
+ready-down a b p q e f =
+    let s = before-start p q e in
+    let u = q .meeting .start in
+    rw (below-down a (p .meeting .start) u s (and-left (below a u) (below b u) f), below-down b (p .meeting .start) u s (and-right (below a u) (below b u) f))
+
 module _ (queue : Queue) (rows : Rows) (h : Holds queue rows) where
   pub holds-length : length rows ≡ places
   holds-length = stores-length pairIn rowOf places 8 (queue .count) rows h
@@ -160,13 +168,6 @@ module _ (queue : Queue) (rows : Rows) (h : Holds queue rows) where
       )
 
   -- ---- what is ready
-
-  ready-down : (a b : Gate) (p q : Pair) → comesBefore p q ≡ true → Down (ready a b) p q
-  unfolding ready
-  ready-down a b p q e f =
-      let s = before-start p q e in
-      let u = q .meeting .start in
-      rw (below-down a (p .meeting .start) u s (and-left (below a u) (below b u) f), below-down b (p .meeting .start) u s (and-right (below a u) (below b u) f))
 
   -- the first k are ready and the next is not, or there is no next
   pub ready-first : (a b : Gate) (k : ℕ) → chain comesBefore (waiting queue rows) ≡ true → k ≤ queue .count → allOf (λ (row : List ℕ). ready a b (pairIn row)) (take k rows) ≡ true

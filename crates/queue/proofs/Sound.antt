@@ -132,27 +132,24 @@ module _ (side : Side) (own other : ℕ) where
 
     -- one more entry of the side, and its pairs with entries of the other go in
     module _ (rule : Rule) (x : Numbered) (others : List Numbered) (last : x .ordinal ≡ own) (below : All (λ (y : Numbered). y .ordinal < other) others) where
-      abbrev new : List Pair
-      new = newPairs rule side x others
-
       -- each new pair has the new ordinal
-      new-own : All (λ (p : Pair). ownIn side p ≡ own) new
+      new-own : All (λ (p : Pair). ownIn side p ≡ own) (newPairs rule side x others)
       new-own = all-newPairs (λ (p : Pair). ownIn side p ≡ own) (λ (y : Numbered). y .ordinal < other) rule side x others (λ y k e. pairFrom-own x y side ∙ last) below
 
       -- so that none is in the place of one that waits
-      new-apart : All (λ (p : Pair). All (Apart comesBefore p) ps) new
+      new-apart : All (λ (p : Pair). All (Apart comesBefore p) ps) (newPairs rule side x others)
       new-apart = all-map (λ (p : Pair). ownIn side p ≡ own) (λ (p : Pair). All (Apart comesBefore p) ps)
-          (λ p m. all-map (SoundPair side own other) (Apart comesBefore p) (λ q s. apart-own side p q (λ f. omega (arith, s .ours))) ps (h .sounds)) new new-own
+          (λ p m. all-map (SoundPair side own other) (Apart comesBefore p) (λ q s. apart-own side p q (λ f. omega (arith, s .ours))) ps (h .sounds)) (newPairs rule side x others) new-own
 
-      new-sound : All (SoundPair side (own + 1) other) new
+      new-sound : All (SoundPair side (own + 1) other) (newPairs rule side x others)
       new-sound = all-newPairs (SoundPair side (own + 1) other) (λ (y : Numbered). y .ordinal < other) rule side x others
           (λ y k e. record { proper = pairFrom-proper x y side rule e; ours = rw (pairFrom-own x y side) (omega arith); theirs = rw (pairFrom-other x y side) k }) below
 
-      pub waiting-merged : Each Later others → length ps + length new ≤ places → SoundWaiting side (own + 1) other (insertAllBy comesBefore new ps)
+      pub waiting-merged : Each Later others → length ps + length (newPairs rule side x others) ≤ places → SoundWaiting side (own + 1) other (insertAllBy comesBefore (newPairs rule side x others) ps)
       waiting-merged laters room = record {
-        few = omega (arith, insertAllBy-length comesBefore new ps);
-        sounds = all-insertAllBy comesBefore (SoundPair side (own + 1) other) new ps new-sound
+        few = omega (arith, insertAllBy-length comesBefore (newPairs rule side x others) ps);
+        sounds = all-insertAllBy comesBefore (SoundPair side (own + 1) other) (newPairs rule side x others) ps new-sound
             (all-map (SoundPair side own other) (SoundPair side (own + 1) other) (λ p s. record { proper = s .proper; ours = omega (arith, s .ours); theirs = s .theirs }) ps (h .sounds));
-        ascends = insertAllBy-ascending comesBefore strict-comesBefore new ps (h .ascends)
-            (each-map (λ (p q : Pair). comesBefore p q ≡ true) (Apart comesBefore) (λ p q e. inl e) new (newPairs-ascending rule side x others laters)) new-apart;
+        ascends = insertAllBy-ascending comesBefore strict-comesBefore (newPairs rule side x others) ps (h .ascends)
+            (each-map (λ (p q : Pair). comesBefore p q ≡ true) (Apart comesBefore) (λ p q e. inl e) (newPairs rule side x others) (newPairs-ascending rule side x others laters)) new-apart;
       }
