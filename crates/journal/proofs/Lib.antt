@@ -1,2 +1,4 @@
 pub mod Laws
+pub mod Onward
+pub mod Rows
 pub mod Unique

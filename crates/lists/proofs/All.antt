@@ -71,6 +71,11 @@ module _ {A : Type 0} where
   each-first R [] ys h = tt
   each-first R (x ∷ xs) ys h = (all-first (R x) xs ys (h .0), each-first R xs ys (h .1))
 
+  pub each-drop : (R : A → A → Type 0) (n : ℕ) (xs : List A) → Each R xs → Each R (drop n xs)
+  each-drop R zero xs h = h
+  each-drop R (suc n) [] h = tt
+  each-drop R (suc n) (x ∷ xs) h = each-drop R n xs (h .1)
+
   -- the last stands behind all the others
   pub each-last : (R : A → A → Type 0) (xs : List A) (y : A) → Each R (xs ++ (y ∷ [])) → All (λ (x : A). R x y) xs
   each-last R [] y h = tt

@@ -1,7 +1,7 @@
 -- A test that passes whatever stands before something that it passes: what passes stands first.
 use Prim.Native.Nat.{ℕ, zero, suc, _<_, _≤_}
 use native.Mathlib.Nat.{not-suc-le-zero, le-of-suc-le-suc}
-use mathlib.Core.Bool.{Bool, true, false, true≢false}
+use mathlib.Core.Bool.{Bool, true, false, cond, not, true≢false}
 use mathlib.Core.List.{List, [], _∷_, _++_, append-nil}
 use mathlib.Core.Path.{_≡_, refl, sym, ap, _∙_}
 use lib.ListN.{length, take, drop, getD, take-append-drop}
@@ -35,3 +35,32 @@ module _ {A : Type 0} (p : A → Bool) where
       ∙ ap (λ (l : List A). l ++ keep p (drop k xs)) (keep-all p (take k xs) h)
       ∙ ap (λ (l : List A). take k xs ++ l) (keep-none p (drop k xs) f)
       ∙ append-nil (take k xs)
+
+  -- what passes stands first, then what does not
+  pub keep-split : (xs : List A) → Each Down xs → xs ≡ keep p xs ++ keep (λ (x : A). not (p x)) xs
+  keep-split [] h = refl
+  keep-split (x ∷ xs) h = go (p x) refl (keep-split xs (h .1))
+    where
+      others : List A
+      others = keep (λ (y : A). not (p y)) xs
+
+      fail : p x ≡ false → All (λ (y : A). p y ≡ false) xs
+      fail e = all-map (Down x) (λ (y : A). p y ≡ false) (λ y i. fails x y e i) xs (h .0)
+
+      go : (b : Bool) → p x ≡ b → xs ≡ keep p xs ++ others → x ∷ xs ≡ cond b (x ∷ keep p xs) (keep p xs) ++ cond (not b) (x ∷ others) others
+      go true e i = ap {B = List A} (λ l. x ∷ l) i
+      go false e i =
+          rw (
+            keep-none p xs (fail e),
+            keep-all (λ (y : A). not (p y)) xs (all-map (λ (y : A). p y ≡ false) (λ (y : A). not (p y) ≡ true) (λ y f. ap not f) xs (fail e)),
+          )
+
+  -- the first that passes is the first of all
+  pub keep-head : (y : A) (ys : List A) → Each Down (y ∷ ys) → (x : A) (xs : List A) → keep p (y ∷ ys) ≡ x ∷ xs → p y ≡ true
+  keep-head y ys h x xs e = go (p y) refl e
+    where
+      go : (b : Bool) → p y ≡ b → cond b (y ∷ keep p ys) (keep p ys) ≡ x ∷ xs → p y ≡ true
+      go true s f = s
+      go false s f =
+          let none : keep p ys ≡ [] = keep-none p ys (all-map (Down y) (λ (z : A). p z ≡ false) (λ z i. fails y z s i) ys (h .0)) in
+          cc

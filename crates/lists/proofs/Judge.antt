@@ -7,7 +7,7 @@ use mathlib.Core.Bool.{Bool, true, false, _&&_, and-assoc, and-true, and-false, 
 use mathlib.Core.List.{List, [], _∷_, _++_, map}
 use mathlib.Core.Path.{_≡_, refl, sym, ap, _∙_}
 use lib.Dec.{leb}
-use lib.ListN.{length, take, drop, getD, length-take}
+use lib.ListN.{length, replicate, take, drop, getD, length-take}
 use lib.Seq.{slice, slice-cons, take-suc, drop-append-le}
 use borrow.Author.Tests.{leb-true, leb-false}
 use Rattle.lists.specs.Judge.{allOf, chainFrom, chain}
@@ -47,6 +47,10 @@ module _ {A : Type 0} where
   pub all-allOf : (p : A → Bool) (xs : List A) → All (λ (x : A). p x ≡ true) xs → allOf p xs ≡ true
   all-allOf p [] h = refl
   all-allOf p (x ∷ xs) h = rw (h .0, all-allOf p xs (h .1))
+
+  pub allOf-replicate : (p : A → Bool) (n : ℕ) (z : A) → p z ≡ true → allOf p (replicate n z) ≡ true
+  allOf-replicate p zero z e = refl
+  allOf-replicate p (suc n) z e = rw (e, allOf-replicate p n z e)
 
   chainFrom-more : (r : A → A → Bool) (x : A) (l : List A) (i : ℕ) (d : A) → i < length l
       → chainFrom r x (take (suc i) l) ≡ chainFrom r x (take i l) && r (getD (x ∷ l) i d) (getD l i d)

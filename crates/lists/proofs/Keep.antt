@@ -28,6 +28,14 @@ module _ {A : Type 0} (p : A → Bool) where
   keep-none [] h = refl
   keep-none (x ∷ xs) h = rw (h .0) (keep-none xs (h .1))
 
+  pub keep-passes : (xs : List A) → All (λ (x : A). p x ≡ true) (keep p xs)
+  keep-passes [] = tt
+  keep-passes (x ∷ xs) = go (p x) refl (keep-passes xs)
+    where
+      go : (b : Bool) → p x ≡ b → All (λ (y : A). p y ≡ true) (keep p xs) → All (λ (y : A). p y ≡ true) (cond b (x ∷ keep p xs) (keep p xs))
+      go true e i = (e, i)
+      go false e i = i
+
   -- one element more is looked at: it is kept, or not
   keep-take : (l : List A) (i : ℕ) (d : A) → i < length l → keep p (take (i + 1) l) ≡ keep p (take i l) ++ keep p (getD l i d ∷ [])
   keep-take l i d h = rw (add-one, take-suc l i d h, keep-append)
@@ -94,6 +102,17 @@ module _ {A : Type 0} where
   pub keep-same-test : (p q : A → Bool) → ((x : A) → p x ≡ q x) → (xs : List A) → keep p xs ≡ keep q xs
   keep-same-test p q h [] = refl
   keep-same-test p q h (x ∷ xs) = rw (h x, keep-same-test p q h xs)
+
+  -- a test that passes less leaves nothing of another that passes more
+  pub keep-keep : (p q : A → Bool) → ((x : A) → p x ≡ true → q x ≡ true) → (xs : List A) → keep p (keep q xs) ≡ keep p xs
+  keep-keep p q h [] = refl
+  keep-keep p q h (x ∷ xs) = go (p x) (q x) refl refl (keep-keep p q h xs)
+    where
+      go : (b c : Bool) → p x ≡ b → q x ≡ c → keep p (keep q xs) ≡ keep p xs → keep p (cond c (x ∷ keep q xs) (keep q xs)) ≡ cond b (x ∷ keep p xs) (keep p xs)
+      go true true s t e = rw (s, e)
+      go true false s t e = absurd (true≢false (sym (h x s) ∙ t))
+      go false true s t e = rw s e
+      go false false s t e = e
 
   pub all-keep : (P : A → Type 0) (p : A → Bool) (xs : List A) → All P xs → All P (keep p xs)
   all-keep P p [] h = tt

@@ -6,6 +6,7 @@ use mathlib.Core.List.{List, [], _∷_, _++_, append-nil, Perm, Perm·refl, Perm
 use mathlib.Core.Logic.{_⊎_, inl, inr}
 use mathlib.Core.Path.{_≡_, refl, sym, ap, _∙_}
 use lib.ListN.{length}
+use Rattle.lists.specs.Keep.{keep}
 use Rattle.lists.specs.Sort.{insertBy, insertAllBy, sortBy}
 use Rattle.lists.proofs.All.{All, Each, all-any, all-map, all-map₂}
 use Rattle.lists.proofs.Order.{StrictOrder, Apart, Ascending}
@@ -51,6 +52,23 @@ module _ {A : Type 0} (before : A → A → Bool) where
       go true i = (h, k)
       go false i = (k .0, i)
 
+  pub all-insertAllBy : (P : A → Type 0) (xs l : List A) → All P xs → All P l → All P (insertAllBy before xs l)
+  all-insertAllBy P [] l h k = k
+  all-insertAllBy P (x ∷ xs) l h k = all-insertAllBy P xs (insertBy before x l) (h .1) (all-insertBy P x l (h .0) k)
+
+  -- what a test does not pass is put in unseen by it
+  keep-insertBy : (p : A → Bool) (x : A) (l : List A) → p x ≡ false → keep p (insertBy before x l) ≡ keep p l
+  keep-insertBy p x [] h = rw h
+  keep-insertBy p x (y ∷ l) h = go (before x y) (keep-insertBy p x l h)
+    where
+      go : (b : Bool) → keep p (insertBy before x l) ≡ keep p l → keep p (cond b (x ∷ y ∷ l) (y ∷ insertBy before x l)) ≡ keep p (y ∷ l)
+      go true e = rw h
+      go false e = rw e
+
+  pub keep-insertAllBy : (p : A → Bool) (xs l : List A) → All (λ (x : A). p x ≡ false) xs → keep p (insertAllBy before xs l) ≡ keep p l
+  keep-insertAllBy p [] l h = refl
+  keep-insertAllBy p (x ∷ xs) l h = keep-insertAllBy p xs (insertBy before x l) (h .1) ∙ keep-insertBy p x l (h .0)
+
 module _ {A : Type 0} (before : A → A → Bool) (strict : StrictOrder before) where
   -- two elements that differ in order may be put in either way round
   insertBy-swap : (x y : A) → before x y ≡ true → (l : List A) → insertBy before x (insertBy before y l) ≡ insertBy before y (insertBy before x l)
@@ -89,7 +107,7 @@ module _ {A : Type 0} (before : A → A → Bool) (strict : StrictOrder before) 
       go false s (inl t) i = absurd (true≢false (sym t ∙ s))
       go false s (inr t) i = (all-insertBy before (λ (z : A). before y z ≡ true) x l t (h .0), i)
 
-  insertAllBy-ascending : (xs l : List A) → Ascending before l → Each (Apart before) xs → All (λ (x : A). All (Apart before x) l) xs → Ascending before (insertAllBy before xs l)
+  pub insertAllBy-ascending : (xs l : List A) → Ascending before l → Each (Apart before) xs → All (λ (x : A). All (Apart before x) l) xs → Ascending before (insertAllBy before xs l)
   insertAllBy-ascending [] l h e k = h
   insertAllBy-ascending (x ∷ xs) l h e k = insertAllBy-ascending xs (insertBy before x l) (insertBy-ascending x l h (k .0)) (e .1)
       (all-map₂ (Apart before x) (λ (y : A). All (Apart before y) l) (λ (y : A). All (Apart before y) (insertBy before x l))

@@ -11,7 +11,7 @@ use Rattle.lists.specs.Keep.{keep}
 use Rattle.lists.specs.Store.{padTo, Rows, content, stored, Stores}
 use Rattle.lists.proofs.All.{All, all-map, all-map₂, all-take, all-drop, all-replicate}
 use Rattle.lists.proofs.Array.{Shaped}
-use Rattle.lists.proofs.Judge.{allOf-all, allOf-map}
+use Rattle.lists.proofs.Judge.{allOf-all, allOf-map, allOf-replicate}
 use Rattle.lists.proofs.Keep.{keep-map, keep-same-test}
 
 module _ {A : Type 0} (k : ℕ) (z : A) where
@@ -99,6 +99,13 @@ module _ {A : Type 0} (read : List ℕ → A) (write : A → List ℕ) (k width 
 
     pub stores-stored : n ≤ k → Stores read write k width n (stored write k width xs)
     stores-stored h = record { few = h; same = ap (stored write k width) (sym content-stored) }
+
+    -- and beyond it stand blanks
+    pub spare-stored : (isBlank : A → Bool) → isBlank (read (replicate width 0)) ≡ true → allOf isBlank (map read (drop n (stored write k width xs))) ≡ true
+    spare-stored isBlank blank =
+        ap (λ (l : Rows). allOf isBlank (map read l)) (padTo-drop k (replicate width 0) (map write xs) n (length-map xs write ∙ e))
+        ∙ allOf-map read isBlank (replicate (k - n) (replicate width 0))
+        ∙ allOf-replicate (λ (row : List ℕ). isBlank (read row)) (k - n) (replicate width 0) blank
 
 -- ---- rows of a given width
 

@@ -3,12 +3,12 @@ use Prim.Native.Nat.{ℕ, _<_, _≤_}
 use mathlib.Core.Bool.{Bool, true, false, cond}
 use mathlib.Core.List.{List, [], _∷_, _++_, append-nil, map, flatMap}
 use mathlib.Core.Path.{_≡_, refl, sym, ap, _∙_}
-use Rattle.interval.specs.Interval.{meetingOf}
-use Rattle.interval.proofs.Laws.{meeting-comm, meeting-later}
+use Rattle.interval.specs.Interval.{properOf, meetingOf}
+use Rattle.interval.proofs.Laws.{meeting-comm, meeting-start, meeting-later}
 use Rattle.lists.specs.Keep.{keep}
-use Rattle.lists.proofs.All.{Each, each-mapped}
-use Rattle.lists.proofs.Keep.{each-keep}
-use Rattle.lists.proofs.Order.{Ascending}
+use Rattle.lists.proofs.All.{All, Each, all-map₂, all-mapped, each-mapped}
+use Rattle.lists.proofs.Keep.{keep-passes, all-keep, each-keep}
+use Rattle.lists.proofs.Order.{Apart, Ascending}
 use Rattle.pairing.specs.declared.Entry.{Entry}
 use Rattle.pairing.specs.declared.Numbered.{Numbered}
 use Rattle.pairing.specs.declared.Pair.{Pair}
@@ -18,7 +18,7 @@ use Rattle.pairing.specs.declared.Side.the-variants.{A, B}
 use Rattle.pairing.specs.Pair.{pairs, pairOf, comesBefore}
 use Rattle.pairing.specs.Plain.{coupleThat, couplesThat}
 use Rattle.pairing.specs.Side.{pairFrom, newPairs}
-use Rattle.pairing.proofs.Pairs.{pairs-comm, pair-meeting, pair-ordinal-a, pair-ordinal-b, before-by-a, before-by-b}
+use Rattle.pairing.proofs.Pairs.{pairs-meeting, pairs-comm, pair-meeting, pair-ordinal-a, pair-ordinal-b, apart-a, apart-b, before-by-a, before-by-b}
 
 -- the entries that pair with x
 abbrev pub pairing : Rule → Numbered → Numbered → Bool
@@ -69,3 +69,50 @@ pub newPairs-ascending : (rule : Rule) (side : Side) (x : Numbered) (others : Li
 newPairs-ascending rule side x others h =
     rw (newPairs-map rule side x others)
     (each-mapped (pairFrom side x) Later (λ (p q : Pair). comesBefore p q ≡ true) (pairFrom-later side x) (keep (pairing rule x) others) (each-keep Later (pairing rule x) others h))
+
+-- ---- a pair, seen from one of its sides
+
+-- the ordinal of the side's own entry in a pair
+abbrev pub ownIn : Side → Pair → ℕ
+ownIn A p = p .a .ordinal
+ownIn B p = p .b .ordinal
+
+-- the ordinal of the other side's entry in it
+abbrev pub otherIn : Side → Pair → ℕ
+otherIn A p = p .b .ordinal
+otherIn B p = p .a .ordinal
+
+-- pairs that differ in an own ordinal differ in order
+pub apart-own : (side : Side) (p q : Pair) → (ownIn side p ≡ ownIn side q → ⊥) → Apart comesBefore p q
+apart-own A p q n = apart-a p q n
+apart-own B p q n = apart-b p q n
+
+module _ (x y : Numbered) where
+  pub pairFrom-own : (side : Side) → ownIn side (pairFrom side x y) ≡ x .ordinal
+  pairFrom-own A = pair-ordinal-a x y
+  pairFrom-own B = pair-ordinal-b y x
+
+  pub pairFrom-other : (side : Side) → otherIn side (pairFrom side x y) ≡ y .ordinal
+  pairFrom-other A = pair-ordinal-b x y
+  pairFrom-other B = pair-ordinal-a y x
+
+  pub pairFrom-meeting : (side : Side) → pairFrom side x y .meeting ≡ meetingOf (x .entry .span) (y .entry .span)
+  pairFrom-meeting A = pair-meeting x y
+  pairFrom-meeting B = pair-meeting y x ∙ meeting-comm (y .entry .span) (x .entry .span)
+
+  -- entries that pair make a pair with a proper interval
+  pub pairFrom-proper : (side : Side) (rule : Rule) → pairing rule x y ≡ true → properOf (pairFrom side x y .meeting) ≡ true
+  pairFrom-proper side rule e = ap properOf (pairFrom-meeting side) ∙ pairs-meeting rule (x .entry) (y .entry) e
+
+  -- a pair starts no earlier than its entries
+  pub pairFrom-start : (side : Side) → x .entry .span .start ≤ pairFrom side x y .meeting .start
+  pairFrom-start side = rw (pairFrom-meeting side) (meeting-start (x .entry .span) (y .entry .span))
+
+-- what holds of each new pair holds of all
+pub all-newPairs : (P : Pair → Type 0) (Q : Numbered → Type 0) (rule : Rule) (side : Side) (x : Numbered) (others : List Numbered)
+    → ((y : Numbered) → Q y → pairing rule x y ≡ true → P (pairFrom side x y)) → All Q others → All P (newPairs rule side x others)
+all-newPairs P Q rule side x others f h =
+    rw (newPairs-map rule side x others)
+    (all-mapped (pairFrom side x) (λ (y : Numbered). Q y × (pairing rule x y ≡ true)) P (λ y q. f y (q .0) (q .1)) (keep (pairing rule x) others)
+    (all-map₂ Q (λ (y : Numbered). pairing rule x y ≡ true) (λ (y : Numbered). Q y × (pairing rule x y ≡ true)) (λ y q e. (q, e)) (keep (pairing rule x) others)
+    (all-keep Q (pairing rule x) others h) (keep-passes (pairing rule x) others)))

@@ -133,6 +133,14 @@ pub sound-in-order : (ofA ofB : ℕ) (queue : Queue) (rows : Rows) → soundQueu
 unfolding soundQueue
 sound-in-order ofA ofB queue rows e = and-left _ _ (and-right (allOf (soundPair ofA ofB) (waiting queue rows)) _ (and-right (leb (queue .count) places) _ e))
 
+-- a pair before a ready one is ready
+pub ready-down : (a b : Gate) (p q : Pair) → comesBefore p q ≡ true → Down (ready a b) p q
+unfolding ready
+ready-down a b p q e f =
+    let s = before-start p q e in
+    let u = q .meeting .start in
+    rw (below-down a (p .meeting .start) u s (and-left (below a u) (below b u) f), below-down b (p .meeting .start) u s (and-right (below a u) (below b u) f))
+
 module _ (queue : Queue) (rows : Rows) (h : Holds queue rows) where
   pub holds-length : length rows ≡ places
   holds-length = stores-length pairIn rowOf places 8 (queue .count) rows h
@@ -165,13 +173,6 @@ module _ (queue : Queue) (rows : Rows) (h : Holds queue rows) where
       )
 
   -- ---- what is ready
-
-  ready-down : (a b : Gate) (p q : Pair) → comesBefore p q ≡ true → Down (ready a b) p q
-  unfolding ready
-  ready-down a b p q e f =
-      let s = before-start p q e in
-      let u = q .meeting .start in
-      rw (below-down a (p .meeting .start) u s (and-left (below a u) (below b u) f), below-down b (p .meeting .start) u s (and-right (below a u) (below b u) f))
 
   -- the first k are ready and the next is not, or there is no next
   pub ready-first : (a b : Gate) (k : ℕ) → chain comesBefore (waiting queue rows) ≡ true → k ≤ queue .count → allOf (λ (row : List ℕ). ready a b (pairIn row)) (take k rows) ≡ true

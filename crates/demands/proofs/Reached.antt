@@ -1,0 +1,73 @@
+-- Every state that calls reach from a fresh join is sound, so that none of them is answered with 8.
+use Prim.Native.Nat.{ℕ, _<_}
+use native.Mathlib.Omega.{arith}
+use mathlib.Core.Bool.{Bool, true, false, cond}
+use mathlib.Core.List.{List, [], _∷_, _++_}
+use mathlib.Core.Path.{_≡_, refl}
+use lib.Dec.{ltb}
+use borrow.Author.Tests.{ltb-true}
+use Rattle.lists.specs.Judge.{allOf}
+use Rattle.pairing.specs.declared.Pair.{Pair}
+use Rattle.pairing.specs.declared.Rule.{Rule}
+use Rattle.journal.specs.Answer.{numberOf, Row, _gives_, firstOf}
+use Rattle.journal.specs.Journal.{markRows}
+use Rattle.journal.proofs.Rows.{number-rows}
+use Rattle.join.specs.declared.Took.the-variants.{Handed, Waiting}
+use Rattle.join.specs.State.{State, Sound, view}
+use Rattle.join.specs.Calls.{sideOf, judgeRows, entryRows, closeRows, entryCall, markCall, closeCall, readyIn, bothClosed, waitingIn, nextOf, takeOn, takeCall, tookNumber}
+use Rattle.join.proofs.Kept.{sound-fresh, entry-kept, mark-kept, close-kept, take-kept}
+use Rattle.join.proofs.Ready.{take-sound}
+use Rattle.demands.specs.History.{Call, Enter, Mark, Close, Take, after, World, begin, step, run}
+
+-- ---- sound all along
+
+-- every call on a sound state leaves a sound one
+pub sound-after : (s : State) → Sound s → (c : Call) → Sound (after s c)
+sound-after s h (Enter stream e) = entry-kept s h stream e
+sound-after s h (Mark stream time) = mark-kept s h stream time
+sound-after s h (Close stream) = close-kept s h stream
+sound-after s h Take = take-kept s h
+
+pub sound-run : (w : World) → Sound (w .state) → (cs : List Call) → Sound (run w cs .state)
+sound-run w h [] = h
+sound-run w h (c ∷ cs) = sound-run (step w c) (sound-after (w .state) h c) cs
+
+-- along any run from a fresh join every state is sound
+pub reached : (rule : Rule) (cs : List Call) → Sound (run (begin rule) cs .state)
+reached rule cs = sound-run (begin rule) (sound-fresh rule) cs
+
+-- ---- no 8
+
+-- the number that a call gets, as the table has it; 0 where nothing is refused
+abbrev pub numberAt : State → Call → ℕ
+numberAt s (Enter stream e) = numberOf (entryCall s stream e .answer)
+numberAt s (Mark stream time) = numberOf (markCall s stream time .answer)
+numberAt s (Close stream) = numberOf (closeCall s stream .answer)
+numberAt s Take = tookNumber (takeCall s .answer)
+
+-- on a sound state the row of 8 does not apply, and no other row gives 8
+judged-number : (s : State) → Sound s → (stream : ℕ) (rows : List Row) → allOf (λ (row : Row). ltb (row .number) 8) rows ≡ true → numberOf (firstOf (judgeRows s stream ++ rows)) < 8
+judged-number s h stream rows low = rw (h .judged) (ltb-true _ 8 (number-rows (λ (n : ℕ). ltb n 8) ((ltb 1 stream gives 1) ∷ rows) refl low))
+
+next-number : (ready : Pair → Bool) (closed : Bool) (ps : List Pair) → tookNumber (nextOf ready closed ps) ≡ 0
+next-number ready true [] = refl
+next-number ready false [] = refl
+next-number ready closed (p ∷ ps) = go (ready p)
+  where
+    go : (b : Bool) → tookNumber (cond b (Handed p) Waiting) ≡ 0
+    go true = refl
+    go false = refl
+
+-- a call on a sound state gets a number below 8
+pub sound-number : (s : State) → Sound s → (c : Call) → numberAt s c < 8
+unfolding entryCall entryRows markCall closeCall
+sound-number s h (Enter stream e) = judged-number s h stream (entryRows (sideOf stream) (view (sideOf stream) s) e) refl
+sound-number s h (Mark stream time) = judged-number s h stream (markRows time (view (sideOf stream) s .own)) refl
+sound-number s h (Close stream) = judged-number s h stream (closeRows (view (sideOf stream) s)) refl
+sound-number s h Take =
+    let none : tookNumber (takeOn s .answer) ≡ 0 = next-number (readyIn s) (bothClosed s) (waitingIn s) in
+    rw (take-sound s h) (omega arith)
+
+-- no call of a history is answered with 8
+pub reached-not-8 : (rule : Rule) (cs : List Call) (c : Call) → numberAt (run (begin rule) cs .state) c ≡ 8 → ⊥
+reached-not-8 rule cs c e = omega (arith, sound-number (run (begin rule) cs .state) (reached rule cs) c)

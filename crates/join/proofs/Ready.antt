@@ -1,0 +1,214 @@
+-- What is ready stays ready, and first among what is ready, until it is taken; and takes one after the other are one drop.
+use Prim.Native.Nat.{ℕ, zero, suc, _+_, _≤_}
+use native.Mathlib.Omega.{arith}
+use mathlib.Core.Bool.{Bool, true, false}
+use mathlib.Core.List.{List, [], _∷_, _++_, append-nil, map}
+use mathlib.Core.Path.{_≡_, refl, sym, ap, _∙_}
+use lib.ListN.{length, take, drop}
+use lib.Seq.{drop-drop, take-append-le}
+use Rattle.lists.specs.Keep.{keep}
+use Rattle.lists.proofs.All.{All, all-any}
+use Rattle.lists.proofs.Keep.{keep-length}
+use Rattle.lists.proofs.Order.{Ascending}
+use Rattle.lists.proofs.Sort.{keep-insertAllBy}
+use Rattle.pairing.specs.declared.Entry.{Entry}
+use Rattle.pairing.specs.declared.Numbered.{Numbered}
+use Rattle.pairing.specs.declared.Pair.{Pair}
+use Rattle.pairing.specs.declared.Side.{Side}
+use Rattle.pairing.specs.declared.Side.the-variants.{A, B}
+use Rattle.pairing.specs.Pair.{comesBefore}
+use Rattle.pairing.proofs.Arrival.{pairFrom-start, all-newPairs}
+use Rattle.journal.specs.declared.Gate.{Gate}
+use Rattle.journal.specs.declared.Gate.the-variants.{Open, Closed}
+use Rattle.journal.specs.Answer.{Row, firstOf}
+use Rattle.journal.specs.Journal.{markRows}
+use Rattle.journal.proofs.Onward.{Onward, onward-same, onward-closed, onward-open}
+use Rattle.journal.proofs.Rows.{accepted-rows, unless-refused}
+use Rattle.queue.specs.Queue as queue
+use Rattle.queue.proofs.Sound.{waiting-stored, queue-waiting}
+use Rattle.queue.proofs.Ready.{keep-ready-comm, ready-ahead, ready-split, ready-head, ready-grows}
+use Rattle.join.specs.declared.Took.{Took}
+use Rattle.join.specs.declared.Took.the-variants.{Handed}
+use Rattle.join.specs.State.{State, Sound, View, view, stateOf}
+use Rattle.join.specs.Calls.{Outcome, called, sideOf, judgeRows, arrival, formed, entryRows, afterEntry, entryCall, afterMove, markCall, closeRows, closeCall, waitingIn, readyIn, bothClosed, nextOf, without, afterTake, takeOn, takeCall}
+use Rattle.join.proofs.View.{view-stateOf, view-waiting}
+use Rattle.join.proofs.Kept.{sound-view, sound-move, sound-entry, without-kept}
+
+-- the ready pairs, in their order
+abbrev pub readyOf : State → List Pair
+readyOf s = keep (readyIn s) (waitingIn s)
+
+-- at most 256 are ready
+pub ready-few : (s : State) → Sound s → length (readyOf s) ≤ queue.places
+ready-few s h =
+    let few : length (waitingIn s) ≤ queue.places = rw (view-waiting A s) at (sound-view A s h .waiting .few) in
+    omega (arith, keep-length (readyIn s) (waitingIn s))
+
+ascending : (s : State) → Sound s → Ascending comesBefore (waitingIn s)
+ascending s h = rw (view-waiting A s) at (sound-view A s h .waiting .ascends)
+
+-- ---- a call that is no take
+
+-- the ready pairs as a side sees them
+abbrev readySeen : View → List Pair
+readySeen v = keep (queue.ready (v .own .gate) (v .other .gate)) (v .waiting)
+
+ready-seen : (side : Side) (s : State) → readyOf s ≡ readySeen (view side s)
+unfolding view
+ready-seen A s = refl
+ready-seen B s = keep-ready-comm (s .join .a .journal .gate) (s .join .b .journal .gate) (waitingIn s)
+
+-- what is ready in s stays first among what is ready in t
+abbrev pub Grows : State → State → Type 0
+Grows s t = (new : List Pair) × (readyOf t ≡ readyOf s ++ new)
+
+grows-same : (s : State) → Grows s s
+grows-same s = ([], sym (append-nil (readyOf s)))
+
+module _ (s : State) (h : Sound s) (side : Side) where
+  abbrev seen : View
+  seen = view side s
+
+  -- the gate of the side moves onward, and no pair that goes in is ready
+  grows-seen : (v : View) → Onward (seen .own .gate) (v .own .gate) → v .other .gate ≡ seen .other .gate
+      → keep (queue.ready (seen .own .gate) (seen .other .gate)) (v .waiting) ≡ readySeen seen → Ascending comesBefore (v .waiting) → Grows s (stateOf side v)
+  grows-seen v on other same ascends =
+      let g = ready-grows (seen .own .gate) (seen .other .gate) (v .own .gate) (seen .other .gate) on (onward-same (seen .other .gate)) (seen .waiting) (v .waiting) same ascends in (
+        g .0,
+        ready-seen side (stateOf side v)
+            ∙ ap readySeen (view-stateOf side v)
+            ∙ ap (λ (gate : Gate). keep (queue.ready (v .own .gate) gate) (v .waiting)) other
+            ∙ g .1
+            ∙ ap (λ (l : List Pair). l ++ g .0) (sym (ready-seen side s)),
+      )
+
+  grows-move : (gate : Gate) → Onward (seen .own .gate) gate → Grows s (stateOf side (afterMove gate seen))
+  unfolding afterMove
+  grows-move gate on = grows-seen (afterMove gate seen) on refl refl (sound-move side seen (sound-view side s h) gate on .waiting .ascends)
+
+  -- its own pairs start no earlier than an entry, so that none of them is ready yet
+  grows-entry : (e : Entry) → All (λ (row : Row). row .when ≡ false) (entryRows side seen e) → Grows s (stateOf side (afterEntry side seen e))
+  unfolding entryRows afterEntry
+  grows-entry e rows =
+      let start = e .span .start in
+      let on : Onward (seen .own .gate) (Open start) = onward-open (seen .own .gate) start (rows .0) (rows .1 .1 .0) in
+      let due : Pair → Bool = queue.ready (seen .own .gate) (seen .other .gate) in
+      let late : All (λ (p : Pair). due p ≡ false) (formed side seen e) = all-newPairs (λ (p : Pair). due p ≡ false) (λ (y : Numbered). Unit {0}) (seen .rule) side (arrival seen e) (seen .others)
+      (λ y u f. ready-ahead (seen .own .gate) (seen .other .gate) start on _ (pairFrom-start (arrival seen e) y side)) (all-any (λ (y : Numbered). Unit {0}) (λ y. tt) (seen .others)) in
+      grows-seen (afterEntry side seen e) on refl (keep-insertAllBy comesBefore due (formed side seen e) (seen .waiting) late) (sound-entry side seen (sound-view side s h) e rows .waiting .ascends)
+
+module _ (s : State) (h : Sound s) where
+  called-grows : (rows : List Row) (next : State) → (All (λ (row : Row). row .when ≡ false) rows → Grows s next) → Grows s (called s rows next .state)
+  called-grows rows next f = unless-refused (Grows s) (firstOf rows) next s (λ e. f (accepted-rows rows e)) (grows-same s)
+
+  pub entry-grows : (stream : ℕ) (e : Entry) → Grows s (entryCall s stream e .state)
+  unfolding entryCall
+  entry-grows stream e =
+      let side = sideOf stream in
+      called-grows (judgeRows s stream ++ entryRows side (view side s) e) (stateOf side (afterEntry side (view side s) e)) (λ rows. grows-entry s h side e (rows .1 .1))
+
+  pub mark-grows : (stream time : ℕ) → Grows s (markCall s stream time .state)
+  unfolding markCall
+  mark-grows stream time =
+      let side = sideOf stream in
+      called-grows (judgeRows s stream ++ markRows time (view side s .own)) (stateOf side (afterMove (Open time) (view side s)))
+      (λ rows. grows-move s h side (Open time) (onward-open (view side s .own .gate) time (rows .1 .1 .0) (rows .1 .1 .1 .0)))
+
+  pub close-grows : (stream : ℕ) → Grows s (closeCall s stream .state)
+  unfolding closeCall
+  close-grows stream =
+      let side = sideOf stream in
+      called-grows (judgeRows s stream ++ closeRows (view side s)) (stateOf side (afterMove Closed (view side s))) (λ rows. grows-move s h side Closed (onward-closed (view side s .own .gate)))
+
+-- ---- a take
+
+pub waiting-without : (k : ℕ) (s : State) → waitingIn (without k s) ≡ drop k (waitingIn s)
+unfolding without
+waiting-without k s = waiting-stored (drop k (waitingIn s))
+
+-- dropping changes no gate
+pub ready-without : (k : ℕ) (s : State) → readyIn (without k s) ≡ readyIn s
+unfolding without
+ready-without k s = refl
+
+module _ (s : State) (h : Sound s) where
+  -- on a sound state the judge lets a take through
+  pub take-sound : takeCall s ≡ takeOn s
+  unfolding takeCall
+  take-sound = rw (h .judged)
+
+  -- where p is the first that is ready, a take hands it out and leaves the others
+  pub take-ready : (p : Pair) (rest : List Pair) → readyOf s ≡ p ∷ rest → (takeCall s ≡ record { answer = Handed p; state = without 1 s }) × (readyOf (without 1 s) ≡ rest)
+  take-ready p rest e = go (waitingIn s) refl (ascending s h)
+    where
+      done : (q : Pair) (qs : List Pair) → waitingIn s ≡ q ∷ qs → readyIn s q ≡ true → (takeCall s ≡ record { answer = Handed p; state = without 1 s }) × (readyOf (without 1 s) ≡ rest)
+      done q qs w r =
+          let shown : q ∷ keep (readyIn s) qs ≡ p ∷ rest = rw (w, r) at e in
+          let first : q ≡ p = cc in
+          let then : keep (readyIn s) qs ≡ rest = cc in (
+            take-sound
+                ∙ ap (λ (l : List Pair). record { answer = nextOf (readyIn s) (bothClosed s) l; state = afterTake (nextOf (readyIn s) (bothClosed s) l) s }) w
+                ∙ rw (r, first),
+            ap (keep (readyIn (without 1 s))) (waiting-without 1 s ∙ ap (drop 1) w) ∙ ap (λ (f : Pair → Bool). keep f qs) (ready-without 1 s) ∙ then,
+          )
+
+      go : (l : List Pair) → waitingIn s ≡ l → Ascending comesBefore l → (takeCall s ≡ record { answer = Handed p; state = without 1 s }) × (readyOf (without 1 s) ≡ rest)
+      go [] w a = let none : [] ≡ p ∷ rest = rw w at e in absurd (let z : _≡_ {A = ℕ} 0 1 = cc in omega arith)
+      go (q ∷ qs) w a = done q qs w (ready-head (s .join .a .journal .gate) (s .join .b .journal .gate) q qs a p rest (rw w at e))
+
+-- ---- takes one after the other
+
+-- dropping none changes nothing
+pub without-none : (s : State) → Sound s → without 0 s ≡ s
+unfolding without
+without-none s h = λ i. record {
+  join = record { rule = s .join .rule; a = s .join .a; b = s .join .b; queue = queue-waiting (s .join .queue) (s .rows) (h .holdsQueue) i };
+  inA = s .inA;
+  inB = s .inB;
+  rows = sym (h .holdsQueue .same) i;
+}
+
+-- dropping twice is dropping once
+pub without-without : (m n : ℕ) (s : State) → without m (without n s) ≡ without (n + m) s
+unfolding without
+without-without m n s =
+    let left : drop m (waitingIn (without n s)) ≡ drop (n + m) (waitingIn s) = ap (drop m) (waiting-without n s) ∙ drop-drop m n (waitingIn s) in
+    λ i. record {
+      join = record { rule = s .join .rule; a = s .join .a; b = s .join .b; queue = queue.queueOf (left i) };
+      inA = s .inA;
+      inB = s .inB;
+      rows = queue.rowsOf (left i);
+    }
+
+-- the state after k takes
+abbrev pub takenFrom : ℕ → State → State
+takenFrom zero s = s
+takenFrom (suc k) s = takenFrom k (takeCall s .state)
+
+-- what they answer
+abbrev pub answersFrom : ℕ → State → List Took
+answersFrom zero s = []
+answersFrom (suc k) s = takeCall s .answer ∷ answersFrom k (takeCall s .state)
+
+-- Where k pairs are ready, k single takes hand them out in order and leave what one drop of k leaves.
+pub takes-together : (k : ℕ) (s : State) → Sound s → k ≤ length (readyOf s) → (takenFrom k s ≡ without k s) × (answersFrom k s ≡ map Handed (take k (readyOf s)))
+takes-together zero s h few = (sym (without-none s h), refl)
+takes-together (suc k) s h few = go (readyOf s) refl (takes-together k (without 1 s) (without-kept s h 1))
+  where
+    go : (l : List Pair) → readyOf s ≡ l
+        → (k ≤ length (readyOf (without 1 s)) → (takenFrom k (without 1 s) ≡ without k (without 1 s)) × (answersFrom k (without 1 s) ≡ map Handed (take k (readyOf (without 1 s)))))
+        → (takenFrom (suc k) s ≡ without (suc k) s) × (answersFrom (suc k) s ≡ map Handed (take (suc k) (readyOf s)))
+    go [] e rest = absurd (let none : suc k ≤ 0 = rw e at few in omega arith)
+    go (p ∷ ps) e rest =
+        let one = take-ready s h p ps e in
+        let more : suc k ≤ suc (length ps) = rw e at few in
+        let then = rest (rw (one .1) (omega arith)) in
+        let up : 1 + k ≡ suc k = omega arith in (
+          ap (λ (o : Outcome Took). takenFrom k (o .state)) (one .0) ∙ then .0 ∙ without-without k 1 s ∙ ap (λ (n : ℕ). without n s) up,
+          rw (one .0, e, then .1, one .1),
+        )
+
+-- the first k ready ones are the first k that wait
+pub ready-front : (s : State) → Sound s → (k : ℕ) → k ≤ length (readyOf s) → take k (waitingIn s) ≡ take k (readyOf s)
+ready-front s h k few =
+    ap (take k) (ready-split (s .join .a .journal .gate) (s .join .b .journal .gate) (waitingIn s) (ascending s h)) ∙ take-append-le k (readyOf s) _ few

@@ -1,0 +1,44 @@
+-- Laws of a table's rows: what it takes to be accepted, and which numbers can be given.
+use Prim.Native.Nat.{ℕ}
+use native.Mathlib.Omega.{arith}
+use mathlib.Core.Bool.{Bool, true, false, cond}
+use mathlib.Core.List.{List, [], _∷_}
+use mathlib.Core.Path.{_≡_, refl}
+use Rattle.lists.specs.Judge.{allOf}
+use Rattle.lists.proofs.All.{All}
+use Rattle.lists.proofs.Bools.{and-left, and-right}
+use Rattle.journal.specs.declared.Answer.{Answer}
+use Rattle.journal.specs.declared.Answer.the-variants.{Accepted, Refused}
+use Rattle.journal.specs.Answer.{numberOf, Row, firstOf, unlessRefused}
+
+-- where a call is accepted, no row applies
+pub accepted-rows : (rows : List Row) → firstOf rows ≡ Accepted → All (λ (row : Row). row .when ≡ false) rows
+accepted-rows [] e = tt
+accepted-rows (row ∷ rows) e = go (row .when) refl e (accepted-rows rows)
+  where
+    never : (n : ℕ) → Refused n ≡ Accepted → ⊥
+    never n f = let z : _≡_ {A = ℕ} 0 1 = cc in omega arith
+
+    go : (b : Bool) → row .when ≡ b → cond b (Refused (row .number)) (firstOf rows) ≡ Accepted
+        → (firstOf rows ≡ Accepted → All (λ (r : Row). r .when ≡ false) rows) → (row .when ≡ false) × All (λ (r : Row). r .when ≡ false) rows
+    go true w f rest = absurd (never (row .number) f)
+    go false w f rest = (w, rest f)
+
+-- where no row applies, a call is accepted
+pub rows-accepted : (rows : List Row) → All (λ (row : Row). row .when ≡ false) rows → firstOf rows ≡ Accepted
+rows-accepted [] h = refl
+rows-accepted (row ∷ rows) h = rw (h .0) (rows-accepted rows (h .1))
+
+-- a test that passes 0 and the number of every row passes the answer's number
+pub number-rows : (p : ℕ → Bool) (rows : List Row) → p 0 ≡ true → allOf (λ (row : Row). p (row .number)) rows ≡ true → p (numberOf (firstOf rows)) ≡ true
+number-rows p [] none e = none
+number-rows p (row ∷ rows) none e = go (row .when) (number-rows p rows none (and-right (p (row .number)) _ e))
+  where
+    go : (b : Bool) → p (numberOf (firstOf rows)) ≡ true → p (numberOf (cond b (Refused (row .number)) (firstOf rows))) ≡ true
+    go true rest = and-left (p (row .number)) _ e
+    go false rest = rest
+
+-- what holds of the old and, if a call is accepted, of the new, holds after the call
+pub unless-refused : {A : Type 0} (P : A → Type 0) (answer : Answer) (new old : A) → (answer ≡ Accepted → P new) → P old → P (unlessRefused answer new old)
+unless-refused P Accepted new old f h = f refl
+unless-refused P (Refused number) new old f h = h
