@@ -4,3 +4,6 @@ pub mod Gates
 pub mod Views
 pub mod Invariant
 pub mod Follows
+pub mod Sums
+pub mod Streams
+pub mod Demands

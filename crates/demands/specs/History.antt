@@ -21,6 +21,12 @@ pub data Call : Type 0 where
   Close : ℕ → Call
   Take : Call
 
+abbrev pub isTake : Call → Bool
+isTake (Enter stream e) = false
+isTake (Mark stream time) = false
+isTake (Close stream) = false
+isTake Take = true
+
 -- the state after a call
 abbrev pub after : State → Call → State
 after s (Enter stream e) = entryCall s stream e .state
