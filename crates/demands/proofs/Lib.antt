@@ -7,3 +7,4 @@ pub mod Follows
 pub mod Sums
 pub mod Streams
 pub mod Demands
+pub mod Bench

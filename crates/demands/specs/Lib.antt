@@ -1,3 +1,4 @@
 pub mod History
 pub mod Stream
 pub mod Demands
+pub mod Bench
