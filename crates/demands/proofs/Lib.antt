@@ -8,3 +8,4 @@ pub mod Sums
 pub mod Streams
 pub mod Demands
 pub mod Bench
+pub mod Broken
