@@ -24,13 +24,13 @@ use Rattle.join.specs.declared.Took.{Took}
 use Rattle.join.specs.declared.Took.the-variants.{Handed, Waiting, Finished, Refused}
 use Rattle.join.specs.State.{State, view, sound, freshState}
 use Rattle.join.specs.Calls.{sideOf, entryRows, judgeRows, closeRows, entryCall, markCall, closeCall, takeCall, takeOn, nextOf, waitingIn, readyIn, bothClosed}
-use Rattle.demands.specs.Demands.{pairsOf, EachInstant, Joins, Multiplies, HoldsWanted, CountsAccepted, plainOf, FirstStretch, BelowClocks, Whole, FinishedWhole, NoMore, OnlyTakes, Agree, Demands, ran}
+use Rattle.demands.specs.Demands.{pairsOf, EachInstant, Joins, TermsOnce, Multiplies, HoldsWanted, CountsAccepted, plainOf, FirstStretch, BelowClocks, Whole, FinishedWhole, NoMore, OnlyTakes, Agree, Demands, ran}
 use Rattle.demands.specs.History.{Call, Enter, Mark, Close, Take, isTake, World, begin, step, run, isRefusal, refused}
 use Rattle.demands.proofs.Follows.{Follows, follows-run}
 use Rattle.demands.proofs.Invariant as invariant
 use Rattle.demands.proofs.Invariant.{Due, GoodWorld, quiet, began}
 use Rattle.demands.proofs.Refused.{run-heeded}
-use Rattle.demands.proofs.Streams.{plain-joins, plain-multiplies}
+use Rattle.demands.proofs.Streams.{plain-joins, plain-multiplies, entries-once}
 
 pub run-append : (w : World) (calls more : List Call) → run w (calls ++ more) ≡ run (run w calls) more
 run-append w [] more = refl
@@ -112,6 +112,9 @@ module _ (rule : Rule) (w : World) (g : GoodWorld rule w) where
   joins : Joins rule w
   joins e t = rw listed (plain-joins rule t (e .a) (e .b) (w .ofA) (w .ofB))
 
+  terms-once : TermsOnce rule w
+  terms-once = (entries-once (w .ofA), entries-once (w .ofB))
+
   multiplies : Multiplies rule w
   multiplies x y t = rw listed (plain-multiplies rule t x y (w .ofA) (w .ofB))
 
@@ -175,6 +178,7 @@ demands rule calls more =
       unrefused = run-heeded (begin rule) calls;
       eachInstant = each-instant rule w g;
       joins = joins rule w g;
+      termsOnce = terms-once rule w g;
       multiplies = multiplies rule w g;
       holdsWanted = holds-wanted rule w g;
       countsAccepted = counts-accepted rule w g;

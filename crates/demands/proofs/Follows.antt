@@ -8,7 +8,8 @@ use Rattle.lists.specs.Keep.{keep}
 use Rattle.lists.specs.Sort.{insertAllBy}
 use Rattle.lists.proofs.All.{All, all-map}
 use Rattle.lists.proofs.Bools.{and-left, and-right}
-use Rattle.lists.proofs.Keep.{keep-append, keep-same-test}
+use Rattle.lists.proofs.Keep.{keep-append, keep-keep, keep-same-test}
+use Rattle.lists.proofs.Sort.{keep-insertAllBy}
 use Rattle.pairing.specs.declared.Entry.{Entry}
 use Rattle.pairing.specs.declared.Pair.{Pair}
 use Rattle.pairing.specs.declared.Side.{Side}
@@ -28,7 +29,6 @@ use Rattle.join.specs.Calls.{sideOf, arrival, formed, afterEntry, afterMove, en
 use Rattle.demands.specs.History.{Call, Enter, Mark, Close, Take, ofSide, pairOf as handedBy, World, step, run}
 use Rattle.demands.proofs.Gates.{Later, later-refl, later-trans, later-closed, below-later, below-after, later-shut}
 use Rattle.demands.proofs.Invariant.{new-starts, entry-later, mark-later}
-use Rattle.demands.proofs.Lists.{keep-keep, keep-insertAllBy}
 use Rattle.demands.proofs.Views.{view-state, turned, view-turned, waiting-stored}
 
 -- a moment of a run, as a side sees it

@@ -14,8 +14,9 @@ use Rattle.lists.specs.Keep.{keep}
 use Rattle.lists.specs.Sort.{insertAllBy}
 use Rattle.lists.proofs.All.{All, all-any, all-map, all-append, all-mapped}
 use Rattle.lists.proofs.Bools.{and-left, and-right}
-use Rattle.lists.proofs.Keep.{keep-append}
+use Rattle.lists.proofs.Keep.{keep-append, keep-keep}
 use Rattle.lists.proofs.Order.{Compared, less, equal, more, compared}
+use Rattle.lists.proofs.Sort.{insertAllBy-behind}
 use Rattle.pairing.specs.declared.Entry.{Entry}
 use Rattle.pairing.specs.declared.Numbered.{Numbered}
 use Rattle.pairing.specs.declared.Pair.{Pair}
@@ -42,7 +43,6 @@ use Rattle.join.specs.State.{State, View, view, stateOf, sound, freshState}
 use Rattle.join.specs.Calls.{sideOf, arrival, formed, entryRows, afterEntry, afterMove, judgeRows, closeRows, entryCall, markCall, closeCall, takeCall, takeOn, waitingIn, readyIn, bothClosed, nextOf, without, afterTake}
 use Rattle.demands.specs.History.{Call, Enter, Mark, Close, Take, after, ofSide, accepts, pairOf as handedBy, hands, World, begin, step, run}
 use Rattle.demands.proofs.Gates.{Later, later-refl, later-closed, later-open, below-later, wanted-later, below-before, wanted-after}
-use Rattle.demands.proofs.Lists.{keep-keep, insertAllBy-behind}
 use Rattle.demands.proofs.Views.{view-state, turned, view-turned, waiting-stored}
 
 -- the plain list, the entries of one side named first

@@ -1,5 +1,4 @@
 pub mod Refused
-pub mod Lists
 pub mod Gates
 pub mod Views
 pub mod Invariant

@@ -70,3 +70,13 @@ run-heeded w (c ∷ cs) = go (refused (w .state) c) refl (run-heeded (step w c) 
         → run w (cond b (heeded (after (w .state) c) cs) (c ∷ heeded (after (w .state) c) cs)) ≡ run (step w c) cs
     go true h e = ap (λ (v : World). run v (heeded (after (w .state) c) cs)) (sym (step-refused w c h)) ∙ e
     go false h e = e
+
+-- in the run without them no call is refused
+pub heeded-heeded : (s : State) (calls : List Call) → heeded s (heeded s calls) ≡ heeded s calls
+heeded-heeded s [] = refl
+heeded-heeded s (c ∷ cs) = go (refused s c) refl (heeded-heeded (after s c) cs)
+  where
+    go : (b : Bool) → refused s c ≡ b → heeded (after s c) (heeded (after s c) cs) ≡ heeded (after s c) cs
+        → heeded s (cond b (heeded (after s c) cs) (c ∷ heeded (after s c) cs)) ≡ cond b (heeded (after s c) cs) (c ∷ heeded (after s c) cs)
+    go true h e = ap (λ (r : State). heeded r (heeded (after s c) cs)) (sym (after-refused s c h)) ∙ e
+    go false h e = rw h (ap {B = List Call} (λ l. c ∷ l) e)

@@ -5,10 +5,14 @@ use mathlib.Core.Bool.{Bool, true, false, cond, _&&_, and-false}
 use mathlib.Core.List.{List, [], _∷_, map, flatMap}
 use mathlib.Core.Path.{_≡_, refl, sym, ap, ap₂, _∙_}
 use lib.Dec.{ltb, eqb}
-use borrow.Author.Tests.{ltb-false, eqb-true, eq-eqb}
+use borrow.Author.Tests.{lt-ltb, ltb-false, eqb-true, eq-eqb}
+use Rattle.interval.specs.declared.Interval.{Interval}
 use Rattle.interval.specs.Interval.{holdsAt, meetingOf}
 use Rattle.lists.specs.Keep.{tally}
 use Rattle.lists.proofs.Bools.{and-left, and-right}
+use Rattle.lists.proofs.Grid.{tally-grid}
+use Rattle.lists.proofs.Keep.{tally-more, tally-map}
+use Rattle.lists.proofs.Sort.{tally-sortBy}
 use Rattle.pairing.specs.declared.Entry.{Entry}
 use Rattle.pairing.specs.declared.Numbered.{Numbered}
 use Rattle.pairing.specs.declared.Pair.{Pair}
@@ -17,8 +21,8 @@ use Rattle.pairing.specs.Pair.{pairs, partnerOf, pairOf, comesBefore}
 use Rattle.pairing.specs.Plain.{numberedFrom, coupleThat, couplesThat, plain, matchAt}
 use Rattle.pairing.specs.Rule.{fits}
 use Rattle.pairing.proofs.Pairs.{pairs-at, pair-meeting}
-use Rattle.demands.specs.Stream.{Stream, once, sum, joined, Element, sameElement, Couple, couple, sameCouple, elementOf, coupleOf, streamOf, streamOfPairs, matches}
-use Rattle.demands.proofs.Sums.{tally-more, tally-map, tally-sortBy, grid-tally, once-tally, sum-one, sum-same, sum-none}
+use Rattle.demands.specs.Stream.{Stream, EachOnce, once, streamFrom, sum, joined, Element, sameElement, Couple, couple, sameCouple, elementOf, coupleOf, streamOf, streamOfPairs, matches}
+use Rattle.demands.proofs.Sums.{once-tally, sum-one, sum-same, sum-none}
 
 same-refl : (x : Element) → sameElement x x ≡ true
 same-refl x = rw (eq-eqb (x .key) (x .key) refl, eq-eqb (x .value) (x .value) refl)
@@ -31,19 +35,28 @@ same-true x y h =
 
 -- ---- the elements of a stream
 
--- each element that has an entry stands once among the elements of the stream
-pub elements-once : (es : List Entry) (x : Element) → tally (λ (y : Element). sameElement y x) (streamOf es .elements) ≡ cond (ltb 0 (tally (λ (e : Entry). sameElement (elementOf e) x) es)) 1 0
-unfolding streamOf
-elements-once es x =
-    once-tally sameElement same-refl same-true (map elementOf es) x
-    ∙ ap (λ (n : ℕ). cond (ltb 0 n) 1 0) (tally-map (λ (y : Element). sameElement y x) elementOf es)
+module _ {X E : Type 0} (same : E → E → Bool) (refl-same : (x : E) → same x x ≡ true) (true-same : (x y : E) → same x y ≡ true → x ≡ y) (element : X → E) (span : X → Interval) (xs : List X) where
+  abbrev among : E → ℕ
+  among e = tally (λ (x : X). same (element x) e) xs
 
--- an element that has none holds at no instant
-count-none : (es : List Entry) (x : Element) (t : ℕ) → ltb 0 (tally (λ (e : Entry). sameElement (elementOf e) x) es) ≡ false → streamOf es .count x t ≡ 0
-unfolding streamOf
-count-none es x t h =
-    let few = tally-more (λ (e : Entry). sameElement (elementOf e) x && holdsAt t (e .span)) (λ (e : Entry). sameElement (elementOf e) x) (λ e k. and-left (sameElement (elementOf e) x) (holdsAt t (e .span)) k) es in
-    omega (arith, ltb-false 0 (tally (λ (e : Entry). sameElement (elementOf e) x) es) h)
+  -- each element that occurs stands once among the elements of the stream
+  pub elements-once : (e : E) → tally (λ (y : E). same y e) (streamFrom same element span xs .elements) ≡ cond (ltb 0 (among e)) 1 0
+  unfolding streamFrom
+  elements-once e = once-tally same refl-same true-same (map element xs) e ∙ ap (λ (n : ℕ). cond (ltb 0 n) 1 0) (tally-map (λ (y : E). same y e) element xs)
+
+  count-most : (e : E) (t : ℕ) → streamFrom same element span xs .count e t ≤ among e
+  unfolding streamFrom
+  count-most e t = tally-more (λ (x : X). same (element x) e && holdsAt t (span x)) (λ (x : X). same (element x) e) (λ x k. and-left (same (element x) e) (holdsAt t (span x)) k) xs
+
+  -- an element that does not occur holds at no instant
+  pub count-none : (e : E) (t : ℕ) → ltb 0 (among e) ≡ false → streamFrom same element span xs .count e t ≡ 0
+  count-none e t h = omega (arith, ltb-false 0 (among e) h, count-most e t)
+
+  pub each-once : EachOnce same (streamFrom same element span xs)
+  each-once e t h = elements-once e ∙ ap (λ (b : Bool). cond b 1 0) (lt-ltb 0 (among e) (omega (arith, count-most e t)))
+
+pub entries-once : (es : List Entry) → EachOnce sameElement (streamOf es)
+entries-once es = each-once sameElement same-refl same-true elementOf (λ (e : Entry). e .span) es
 
 -- ---- the pairs of the plain list, counted
 
@@ -88,10 +101,10 @@ module _ (rule : Rule) (t : ℕ) (x y : Element) where
 
   -- the counts multiply
   pub plain-multiplies : (ofA ofB : List Entry) → streamOfPairs (plain rule ofA ofB) .count (couple x y) t ≡ cond (matches rule x y) (streamOf ofA .count x t * streamOf ofB .count y t) 0
-  unfolding plain couplesThat streamOf streamOfPairs
+  unfolding plain couplesThat streamFrom
   plain-multiplies ofA ofB =
       tally-sortBy comesBefore inPair (couplesThat (pairs rule) (numberedFrom 0 ofA) (numberedFrom 0 ofB))
-      ∙ grid-tally inPair (coupleThat (pairs rule)) (λ (a : Numbered). isAt x (a .entry)) (λ (b : Numbered). isAt y (b .entry)) (matches rule x y) cell (numberedFrom 0 ofA) (numberedFrom 0 ofB)
+      ∙ tally-grid (coupleThat (pairs rule)) inPair (λ (a : Numbered). isAt x (a .entry)) (λ (b : Numbered). isAt y (b .entry)) (matches rule x y) cell (numberedFrom 0 ofA) (numberedFrom 0 ofB)
       ∙ ap₂ (λ (m n : ℕ). cond (matches rule x y) (m * n) 0) (tally-numbered (isAt x) 0 ofA) (tally-numbered (isAt y) 0 ofB)
 
   -- ---- the sum of definition 8.5 has one term
@@ -134,9 +147,9 @@ module _ (rule : Rule) (t : ℕ) (x y : Element) where
         let countB = tally (λ (v : Element). sameElement v y) seconds in
         sum-same _ (λ (u : Element). cond (sameElement u x) (countB * term u y) 0) (λ u. inner u seconds) firsts
         ∙ sum-one sameElement same-refl same-true (λ (u : Element). countB * term u y) x firsts
-        ∙ ap₂ (λ (m n : ℕ). m * (n * term x y)) (elements-once ofA x) (elements-once ofB y)
+        ∙ ap₂ (λ (m n : ℕ). m * (n * term x y)) (elements-once sameElement same-refl same-true elementOf (λ (e : Entry). e .span) ofA x) (elements-once sameElement same-refl same-true elementOf (λ (e : Entry). e .span) ofB y)
         ∙ final (ltb 0 (tally (λ (e : Entry). sameElement (elementOf e) x) ofA)) (ltb 0 (tally (λ (e : Entry). sameElement (elementOf e) y) ofB)) (matches rule x y)
-        (streamOf ofA .count x t) (streamOf ofB .count y t) (count-none ofA x t) (count-none ofB y t)
+        (streamOf ofA .count x t) (streamOf ofB .count y t) (count-none sameElement same-refl same-true elementOf (λ (e : Entry). e .span) ofA x t) (count-none sameElement same-refl same-true elementOf (λ (e : Entry). e .span) ofB y t)
 
     pub plain-joins : streamOfPairs (plain rule ofA ofB) .count (couple x y) t ≡ joined (matches rule) couple sameCouple (streamOf ofA) (streamOf ofB) (couple x y) t
     plain-joins = plain-multiplies ofA ofB ∙ sym joined-one

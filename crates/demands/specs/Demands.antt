@@ -16,7 +16,7 @@ use Rattle.join.specs.declared.Took.the-variants.{Finished}
 use Rattle.join.specs.State.{State, freshState}
 use Rattle.join.specs.Calls.{waitingIn, readyIn, bothClosed, takeCall}
 use Rattle.demands.specs.History.{Call, isTake, World, begin, run, refused, heeded}
-use Rattle.demands.specs.Stream.{Element, Couple, couple, sameCouple, joined, streamOf, streamOfPairs, matches}
+use Rattle.demands.specs.Stream.{EachOnce, Element, sameElement, Couple, couple, sameCouple, joined, streamOf, streamOfPairs, matches}
 
 -- pairs formed: those handed out, then those waiting
 abbrev pub pairsOf : World → List Pair
@@ -31,6 +31,10 @@ module _ (rule : Rule) (w : World) where
   -- Source document 000, definition 8.5, multiplies the counts: as a logical stream, the pairs are the join of the two journals.
   abbrev pub Joins : Type 0
   Joins = (e : Couple) (t : ℕ) → streamOfPairs (pairsOf w) .count e t ≡ joined (matches rule) couple sameCouple (streamOf (w .ofA)) (streamOf (w .ofB)) e t
+
+  -- that sum has a term for each two elements that hold then, and no term twice
+  abbrev pub TermsOnce : Type 0
+  TermsOnce = EachOnce sameElement (streamOf (w .ofA)) × EachOnce sameElement (streamOf (w .ofB))
 
   -- the same with the one term that is left of the sum, as no other two elements give the same couple
   abbrev pub Multiplies : Type 0
@@ -93,6 +97,7 @@ pub record Demands (rule : Rule) (calls more : List Call) : Type 0 where
   pub unrefused : ran rule (heeded (freshState rule) calls) ≡ ran rule calls
   pub eachInstant : EachInstant rule (ran rule calls)
   pub joins : Joins rule (ran rule calls)
+  pub termsOnce : TermsOnce rule (ran rule calls)
   pub multiplies : Multiplies rule (ran rule calls)
   pub holdsWanted : HoldsWanted (ran rule calls)
   pub countsAccepted : CountsAccepted (ran rule calls)

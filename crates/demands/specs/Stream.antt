@@ -1,8 +1,10 @@
 -- Logical streams and their join, as source document 000 writes them: definition 2.3, the conversion of section 2.3.4, and definition 8.5.
-use Prim.Native.Nat.{ℕ, _+_, _*_}
+use Prim.Native.Nat.{ℕ, _+_, _*_, _<_}
 use mathlib.Core.Bool.{Bool, cond, not, _&&_}
 use mathlib.Core.List.{List, [], _∷_, map}
+use mathlib.Core.Path.{_≡_}
 use lib.Dec.{eqb}
+use Rattle.interval.specs.declared.Interval.{Interval}
 use Rattle.interval.specs.Interval.{holdsAt}
 use Rattle.lists.specs.Keep.{keep, tally}
 use Rattle.pairing.specs.declared.Entry.{Entry}
@@ -16,10 +18,20 @@ pub record Stream (E : Type 0) : Type 0 where
   pub elements : List E
   pub count : E → ℕ → ℕ
 
+abbrev pub EachOnce : {E : Type 0} → (E → E → Bool) → Stream E → Type 0
+EachOnce {E} same S = (e : E) (t : ℕ) → 0 < S .count e t → tally (λ (x : E). same x e) (S .elements) ≡ 1
+
 -- the elements of a list, each once
 abbrev pub once : {E : Type 0} → (E → E → Bool) → List E → List E
 once same [] = []
 once {E} same (x ∷ xs) = x ∷ keep (λ (y : E). not (same y x)) (once same xs)
+
+-- Section 2.3.4: a list of things with an element and an interval each, as a logical stream, holds e at t as often as there are places in it with the element e and an interval that holds t.
+unfoldable pub streamFrom : {X E : Type 0} → (E → E → Bool) → (X → E) → (X → Interval) → List X → Stream E
+streamFrom {X} same element span xs = record {
+  elements = once same (map element xs);
+  count = λ e t. tally (λ (x : X). same (element x) e && holdsAt t (span x)) xs;
+}
 
 abbrev pub sum : {X : Type 0} → (X → ℕ) → List X → ℕ
 sum f [] = 0
@@ -58,18 +70,11 @@ elementOf e = record { key = e .key; value = e .value }
 abbrev pub coupleOf : Pair → Couple
 coupleOf p = couple (record { key = p .a .key; value = p .a .value }) (record { key = p .b .key; value = p .b .value })
 
--- Section 2.3.4: a list of entries with intervals, as a logical stream, holds e at t as often as there are places in it with the element e and an interval that holds t.
-unfoldable pub streamOf : List Entry → Stream Element
-streamOf es = record {
-  elements = once sameElement (map elementOf es);
-  count = λ e t. tally (λ (x : Entry). sameElement (elementOf x) e && holdsAt t (x .span)) es;
-}
+abbrev pub streamOf : List Entry → Stream Element
+streamOf = streamFrom sameElement elementOf (λ (e : Entry). e .span)
 
-unfoldable pub streamOfPairs : List Pair → Stream Couple
-streamOfPairs ps = record {
-  elements = once sameCouple (map coupleOf ps);
-  count = λ e t. tally (λ (p : Pair). sameCouple (coupleOf p) e && holdsAt t (p .meeting)) ps;
-}
+abbrev pub streamOfPairs : List Pair → Stream Couple
+streamOfPairs = streamFrom sameCouple coupleOf (λ (p : Pair). p .meeting)
 
 -- the predicate of the join: the rule holds for the keys
 abbrev pub matches : Rule → Element → Element → Bool
