@@ -1,9 +1,9 @@
--- Broken joins that demand 2 shuts out: each is what an accepted entry leaves, changed in one way, and a few entries after which the statement is false.
+-- Broken joins that demands 2 and 3 shut out: each is what an accepted entry leaves, or what a take hands out, changed in one way, and a few calls after which the statement is false.
 use Prim.Native.Nat.{ℕ, _+_}
 use native.Mathlib.Omega.{arith}
 use mathlib.Core.Bool.{Bool, cond, _&&_}
 use mathlib.Core.List.{List, [], _∷_, _++_, flatMap, Perm, Perm·nil-eq}
-use mathlib.Core.Path.{_≡_, refl, ap}
+use mathlib.Core.Path.{_≡_, refl, sym, ap}
 use lib.Dec.{eqb}
 use lib.ListN.{length, take}
 use Rattle.interval.specs.Interval.{properOf, holdsAt, meetingOf}
@@ -18,7 +18,7 @@ use Rattle.pairing.specs.declared.Rule.the-variants.{Equal}
 use Rattle.pairing.specs.declared.Side.{Side}
 use Rattle.pairing.specs.declared.Side.the-variants.{A, B}
 use Rattle.pairing.specs.Pair.{pairs, partnerOf, pairOf, comesBefore}
-use Rattle.pairing.specs.Plain.{coupleThat, couplesThat, matchAt, couplesAt}
+use Rattle.pairing.specs.Plain.{coupleThat, couplesThat, plain, matchAt, couplesAt}
 use Rattle.pairing.specs.Rule.{fits}
 use Rattle.pairing.specs.Side.{newPairs}
 use Rattle.journal.specs.declared.Gate.the-variants.{Open}
@@ -26,8 +26,8 @@ use Rattle.journal.specs.Journal.{wanted}
 use Rattle.area.specs.Area.{heldIn, rowOf as heldRow, soundArea, wantedBy}
 use Rattle.queue.specs.Queue.{pairIn, rowOf as pairRow, soundQueue}
 use Rattle.join.specs.State.{View, view, stateOf, sound, freshState}
-use Rattle.join.specs.Calls.{arrival, entryRows, afterEntry, entryCall}
-use Rattle.demands.specs.Demands.{pairsOf, EachInstant, CountsAccepted, ran}
+use Rattle.join.specs.Calls.{arrival, entryRows, afterEntry, entryCall, waitingIn, without}
+use Rattle.demands.specs.Demands.{pairsOf, EachInstant, CountsAccepted, FirstStretch, ran}
 use Rattle.demands.specs.History.{Enter, ofSide, World, begin}
 
 -- ---- a world with another join in it
@@ -120,7 +120,21 @@ throwsAway side v e = with-waiting (cond (wanted (v .other .gate) e) (afterEntry
 abbrev pub after-throwing : World
 after-throwing = entering throwsAway A (spanning 3 5) (entering throwsAway B (spanning 10 20) (entering throwsAway B (spanning 2 20) (begin Equal)))
 
--- ---- none of them meets demand 2
+-- handing out at start equal to the earlier clock: an entry may still come that sorts before it
+abbrev pub keyed : ℕ → Entry
+keyed key = record { span = record { start = 0; end = 9 }; key = key; value = 0 }
+
+abbrev pub taking-early : World → World
+taking-early w = record { state = without 1 (w .state); ofA = w .ofA; ofB = w .ofB; out = w .out ++ take 1 (waitingIn (w .state)) }
+
+abbrev pub after-early : World
+after-early = taking-early (ran Equal (Enter 0 (keyed 2) ∷ Enter 0 (keyed 1) ∷ Enter 1 (keyed 1) ∷ []))
+
+abbrev first-ordinal : List Pair → ℕ
+first-ordinal [] = 0
+first-ordinal (p ∷ ps) = p .a .ordinal
+
+-- ---- none of them meets the demands
 
 pub record Broken : Type 0 where
   pub holds-nothing : EachInstant Equal after-nothing → ⊥
@@ -129,9 +143,10 @@ pub record Broken : Type 0 where
   pub made-up-counts : CountsAccepted after-counting → ⊥
   pub clears-own : EachInstant Equal after-clearing → ⊥
   pub throws-away : EachInstant Equal after-throwing → ⊥
+  pub hands-early : FirstStretch Equal after-early (entering afterEntry B (keyed 2) after-early) → ⊥
 
 pub broken : Broken
-unfolding flatMap properOf holdsAt meetingOf ascending neither padTo pairs partnerOf pairOf comesBefore coupleThat couplesThat matchAt couplesAt fits heldIn heldRow pairIn pairRow view stateOf freshState afterEntry
+unfolding flatMap properOf holdsAt meetingOf ascending neither padTo pairs partnerOf pairOf comesBefore coupleThat couplesThat plain matchAt couplesAt fits heldIn heldRow soundArea pairIn pairRow soundQueue view stateOf sound freshState entryRows afterEntry entryCall without
 broken = record {
   holds-nothing = λ h. never (lacks after-nothing 0 0 0 refl h);
   pairs-first = λ h. never (lacks after-first 0 1 0 refl h);
@@ -139,4 +154,5 @@ broken = record {
   made-up-counts = λ h. never (h .0);
   clears-own = λ h. never (lacks after-clearing 0 0 0 refl h);
   throws-away = λ h. never (lacks after-throwing 3 0 0 refl h);
+  hands-early = λ h. never (sym (ap first-ordinal (h .1)));
 }
