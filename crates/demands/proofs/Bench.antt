@@ -1,6 +1,6 @@
 -- The twelve bench examples hold, by computing what each line's calls come to.
 use mathlib.Core.List.{flatMap}
-use mathlib.Core.Path.{_≡_, refl}
+use mathlib.Core.Path.{refl}
 use Rattle.interval.specs.Interval.{properOf, meetingOf}
 use Rattle.lists.specs.Sort.{ascending, neither}
 use Rattle.lists.specs.Store.{padTo}

@@ -2,7 +2,7 @@
 use Prim.Native.Nat.{ℕ, _+_}
 use native.Mathlib.Omega.{arith}
 use mathlib.Core.Bool.{Bool, cond, _&&_}
-use mathlib.Core.List.{List, [], _∷_, _++_, flatMap, Perm, Perm·nil-eq}
+use mathlib.Core.List.{List, [], _∷_, _++_, flatMap, Perm·nil-eq}
 use mathlib.Core.Path.{_≡_, refl, sym, ap}
 use lib.Dec.{eqb}
 use lib.ListN.{length, take}

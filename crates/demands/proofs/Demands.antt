@@ -1,7 +1,7 @@
 -- Demands 2 and 3 hold of every run of a fresh join.
 use Prim.Native.Nat.{ℕ}
 use native.Mathlib.Omega.{arith}
-use mathlib.Core.Bool.{Bool, true, false, cond, _&&_, _||_, true≢false}
+use mathlib.Core.Bool.{Bool, true, false, cond, true≢false}
 use mathlib.Core.List.{List, [], _∷_, _++_, append-assoc, append-nil}
 use mathlib.Core.Path.{_≡_, refl, sym, ap, ap₂, _∙_}
 use Rattle.lists.specs.Keep.{keep}
@@ -17,15 +17,13 @@ use Rattle.pairing.specs.Plain.{plain}
 use Rattle.pairing.proofs.Plain.{plain-at}
 use Rattle.journal.specs.declared.Answer.{Answer}
 use Rattle.journal.specs.declared.Answer.the-variants as answer
-use Rattle.journal.specs.Answer.{firstOf}
 use Rattle.journal.specs.Journal.{isClosed, markRows}
 use Rattle.queue.specs.Queue.{ready}
-use Rattle.join.specs.declared.Took.{Took}
 use Rattle.join.specs.declared.Took.the-variants.{Handed, Waiting, Finished, Refused}
-use Rattle.join.specs.State.{State, view, sound, freshState}
+use Rattle.join.specs.State.{State, view, sound}
 use Rattle.join.specs.Calls.{sideOf, entryRows, judgeRows, closeRows, entryCall, markCall, closeCall, takeCall, takeOn, nextOf, waitingIn, readyIn, bothClosed}
 use Rattle.demands.specs.Demands.{pairsOf, EachInstant, Joins, TermsOnce, Multiplies, HoldsWanted, CountsAccepted, plainOf, FirstStretch, BelowClocks, Whole, FinishedWhole, NoMore, OnlyTakes, Agree, Demands, ran}
-use Rattle.demands.specs.History.{Call, Enter, Mark, Close, Take, isTake, World, begin, step, run, isRefusal, refused}
+use Rattle.demands.specs.History.{Call, Enter, Mark, Close, Take, World, begin, step, run, isRefusal}
 use Rattle.demands.proofs.Follows.{Follows, follows-run}
 use Rattle.demands.proofs.Invariant as invariant
 use Rattle.demands.proofs.Invariant.{Due, GoodWorld, quiet, began}
@@ -112,7 +110,7 @@ module _ (rule : Rule) (w : World) (g : GoodWorld rule w) where
   joins : Joins rule w
   joins e t = rw listed (plain-joins rule t (e .a) (e .b) (w .ofA) (w .ofB))
 
-  terms-once : TermsOnce rule w
+  terms-once : TermsOnce w
   terms-once = (entries-once (w .ofA), entries-once (w .ofB))
 
   multiplies : Multiplies rule w
@@ -165,7 +163,7 @@ module _ (rule : Rule) (w : World) (g : GoodWorld rule w) where
     finished-whole h = let f = finished (w .state) h in whole (f .0) (f .1)
 
 agree : (rule : Rule) (v w : World) → GoodWorld rule v → GoodWorld rule w → Agree v w
-agree rule v w g k a b _ _ e f = emptied rule v g e ∙ ap₂ (λ (x y : List Entry). plain rule x y) a b ∙ sym (emptied rule w k f)
+agree rule v w g k a b e f = emptied rule v g e ∙ ap₂ (λ (x y : List Entry). plain rule x y) a b ∙ sym (emptied rule w k f)
 
 pub demands : (rule : Rule) (calls more : List Call) → Demands rule calls more
 demands rule calls more =

@@ -1,12 +1,12 @@
 -- What a later moment of a run keeps of an earlier one: clocks only move on, what was handed out stays handed out, nothing new starts below the clocks, and a closed journal brings no more.
 use Prim.Native.Nat.{ℕ, _≤_}
-use mathlib.Core.Bool.{Bool, true, false, cond, _&&_, and-false, false≢true}
+use mathlib.Core.Bool.{Bool, true, false, cond, _&&_, false≢true}
 use mathlib.Core.List.{List, [], _∷_, _++_, append-assoc, append-nil, IsPrefix}
 use mathlib.Core.Path.{_≡_, refl, sym, ap, _∙_}
 use lib.ListN.{drop}
 use Rattle.lists.specs.Keep.{keep}
 use Rattle.lists.specs.Sort.{insertAllBy}
-use Rattle.lists.proofs.All.{All, all-map}
+use Rattle.lists.proofs.All.{all-map}
 use Rattle.lists.proofs.Bools.{and-left, and-right}
 use Rattle.lists.proofs.Keep.{keep-append, keep-keep, keep-same-test}
 use Rattle.lists.proofs.Sort.{keep-insertAllBy}
@@ -22,7 +22,6 @@ use Rattle.journal.specs.declared.Gate.the-variants.{Open, Closed}
 use Rattle.journal.specs.Answer.{unlessRefused}
 use Rattle.journal.specs.Journal.{below, isClosed}
 use Rattle.queue.specs.Queue.{ready}
-use Rattle.join.specs.declared.Took.{Took}
 use Rattle.join.specs.declared.Took.the-variants as took
 use Rattle.join.specs.State.{State, View, view, stateOf, sound}
 use Rattle.join.specs.Calls.{sideOf, arrival, formed, afterEntry, afterMove, entryCall, markCall, closeCall, takeCall, takeOn, waitingIn, readyIn, bothClosed, nextOf, without, afterTake}

@@ -1,8 +1,8 @@
 -- A gate only moves on: a later one has passed what the earlier had, and wants no more.
 use Prim.Native.Nat.{ℕ, _≤_, _<_}
 use native.Mathlib.Omega.{arith}
-use mathlib.Core.Bool.{Bool, true, false, true≢false, false≢true}
-use mathlib.Core.Path.{_≡_, refl, sym, _∙_}
+use mathlib.Core.Bool.{true, false, true≢false, false≢true}
+use mathlib.Core.Path.{_≡_, refl}
 use borrow.Author.Tests.{ltb-true, ltb-false, lt-ltb, le-ltb}
 use Rattle.pairing.specs.declared.Entry.{Entry}
 use Rattle.journal.specs.declared.Gate.{Gate}

@@ -1,14 +1,11 @@
 -- The invariant of a run: what is handed out and what waits is the plain list of what was accepted, and each area is what is wanted of it.
-use Prim.Native.Nat.{ℕ, zero, suc, _+_, _≤_, _<_}
+use Prim.Native.Nat.{ℕ, _≤_, _<_}
 use native.Mathlib.Omega.{arith}
 use native.Mathlib.Nat.{zero-add}
-use mathlib.Core.Bool.{Bool, true, false, cond, true≢false, false≢true}
+use mathlib.Core.Bool.{Bool, true, false, cond, true≢false}
 use mathlib.Core.List.{List, [], _∷_, _++_, append-assoc, append-nil, map, flatMap}
 use mathlib.Core.Path.{_≡_, refl, sym, ap, _∙_}
-use lib.Dec.{ltb}
 use lib.ListN.{length, drop, length-append}
-use borrow.Author.Tests.{ltb-true, not-true}
-use Rattle.interval.specs.Interval.{meetingOf}
 use Rattle.interval.proofs.Laws.{meeting-comm, meeting-start}
 use Rattle.lists.specs.Keep.{keep}
 use Rattle.lists.specs.Sort.{insertAllBy}
@@ -23,7 +20,7 @@ use Rattle.pairing.specs.declared.Pair.{Pair}
 use Rattle.pairing.specs.declared.Rule.{Rule}
 use Rattle.pairing.specs.declared.Side.{Side}
 use Rattle.pairing.specs.declared.Side.the-variants.{A, B}
-use Rattle.pairing.specs.Pair.{pairs, pairOf, comesBefore}
+use Rattle.pairing.specs.Pair.{comesBefore}
 use Rattle.pairing.specs.Plain.{numberedFrom, couplesThat, plain}
 use Rattle.pairing.specs.Side.{pairFrom, newPairs}
 use Rattle.pairing.proofs.Arrival.{pairing, newPairs-map}
@@ -34,15 +31,14 @@ use Rattle.journal.specs.declared.Answer.the-variants.{Accepted, Refused}
 use Rattle.journal.specs.declared.Gate.{Gate}
 use Rattle.journal.specs.declared.Gate.the-variants.{Open, Closed}
 use Rattle.journal.specs.Answer.{Row, firstOf, unlessRefused}
-use Rattle.journal.specs.Journal.{wanted, below, isClosed, isBehind, moved, entered, markRows}
+use Rattle.journal.specs.Journal.{wanted, below, markRows}
 use Rattle.area.specs.Area.{wantedBy}
 use Rattle.queue.specs.Queue.{ready}
-use Rattle.join.specs.declared.Took.{Took}
 use Rattle.join.specs.declared.Took.the-variants as took
 use Rattle.join.specs.State.{State, View, view, stateOf, sound, freshState}
-use Rattle.join.specs.Calls.{sideOf, arrival, formed, entryRows, afterEntry, afterMove, judgeRows, closeRows, entryCall, markCall, closeCall, takeCall, takeOn, waitingIn, readyIn, bothClosed, nextOf, without, afterTake}
-use Rattle.demands.specs.History.{Call, Enter, Mark, Close, Take, after, ofSide, accepts, pairOf as handedBy, hands, World, begin, step, run}
-use Rattle.demands.proofs.Gates.{Later, later-refl, later-closed, later-open, below-later, wanted-later, below-before, wanted-after}
+use Rattle.join.specs.Calls.{sideOf, arrival, formed, entryRows, afterEntry, afterMove, judgeRows, entryCall, markCall, closeCall, takeCall, takeOn, waitingIn, readyIn, bothClosed, nextOf, without, afterTake}
+use Rattle.demands.specs.History.{Call, Enter, Mark, Close, Take, ofSide, pairOf as handedBy, World, begin, step, run}
+use Rattle.demands.proofs.Gates.{Later, later-closed, later-open, below-later, wanted-later, below-before, wanted-after}
 use Rattle.demands.proofs.Views.{view-state, turned, view-turned, waiting-stored}
 
 -- the plain list, the entries of one side named first

@@ -1,5 +1,5 @@
 -- A refused call leaves all as it stood, so a run equals the run without its refused calls.
-use mathlib.Core.Bool.{Bool, true, false, cond, true≢false, false≢true}
+use mathlib.Core.Bool.{Bool, true, false, cond, false≢true}
 use mathlib.Core.List.{List, [], _∷_, _++_, append-nil}
 use mathlib.Core.Path.{_≡_, refl, sym, ap, _∙_}
 use Rattle.pairing.specs.declared.Entry.{Entry}
@@ -12,7 +12,7 @@ use Rattle.journal.specs.Answer.{unlessRefused}
 use Rattle.join.specs.declared.Took.{Took}
 use Rattle.join.specs.declared.Took.the-variants.{Handed, Waiting, Finished, Refused}
 use Rattle.join.specs.State.{State, sound}
-use Rattle.join.specs.Calls.{Outcome, entryCall, markCall, closeCall, takeCall, takeOn, nextOf, afterTake, readyIn, bothClosed, waitingIn}
+use Rattle.join.specs.Calls.{entryCall, markCall, closeCall, takeCall, takeOn, nextOf, afterTake, readyIn, bothClosed, waitingIn}
 use Rattle.demands.specs.History.{Call, Enter, Mark, Close, Take, after, accepts, hands, pairOf, World, step, run, isRefusal, isTakeRefusal, refused, heeded}
 
 unless-refused : {A : Type 0} (a : Answer) (new old : A) → isRefusal a ≡ true → unlessRefused a new old ≡ old

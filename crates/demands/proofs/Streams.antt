@@ -1,8 +1,8 @@
 -- The pairs of the plain list, as a logical stream, are the join of the two journals' streams: definition 8.5 of source document 000.
-use Prim.Native.Nat.{ℕ, zero, suc, _+_, _*_, _≤_}
+use Prim.Native.Nat.{ℕ, suc, _*_, _≤_}
 use native.Mathlib.Omega.{arith}
 use mathlib.Core.Bool.{Bool, true, false, cond, _&&_, and-false}
-use mathlib.Core.List.{List, [], _∷_, map, flatMap}
+use mathlib.Core.List.{List, [], _∷_, map}
 use mathlib.Core.Path.{_≡_, refl, sym, ap, ap₂, _∙_}
 use lib.Dec.{ltb, eqb}
 use borrow.Author.Tests.{lt-ltb, ltb-false, eqb-true, eq-eqb}
@@ -21,7 +21,7 @@ use Rattle.pairing.specs.Pair.{pairs, partnerOf, pairOf, comesBefore}
 use Rattle.pairing.specs.Plain.{numberedFrom, coupleThat, couplesThat, plain, matchAt}
 use Rattle.pairing.specs.Rule.{fits}
 use Rattle.pairing.proofs.Pairs.{pairs-at, pair-meeting}
-use Rattle.demands.specs.Stream.{Stream, EachOnce, once, streamFrom, sum, joined, Element, sameElement, Couple, couple, sameCouple, elementOf, coupleOf, streamOf, streamOfPairs, matches}
+use Rattle.demands.specs.Stream.{EachOnce, streamFrom, sum, joined, Element, sameElement, Couple, couple, sameCouple, elementOf, coupleOf, streamOf, streamOfPairs, matches}
 use Rattle.demands.proofs.Sums.{once-tally, sum-one, sum-same, sum-none}
 
 same-refl : (x : Element) → sameElement x x ≡ true

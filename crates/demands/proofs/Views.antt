@@ -1,6 +1,6 @@
 -- A view and the state of it, seen from either side.
 use mathlib.Core.List.{List}
-use mathlib.Core.Path.{_≡_, refl, ap, _∙_}
+use mathlib.Core.Path.{_≡_, refl}
 use lib.ListN.{length}
 use Rattle.lists.proofs.Store.{content-stored}
 use Rattle.pairing.specs.declared.Numbered.{Numbered}

@@ -2,19 +2,19 @@
 use Prim.Native.Nat.{ℕ, zero, suc}
 use mathlib.Core.List.{List, [], _∷_, _++_, map, flatMap}
 use mathlib.Core.Path.{_≡_}
-use lib.ListN.{length, replicate}
+use lib.ListN.{replicate}
 use Rattle.lists.specs.Keep.{tally}
 use Rattle.pairing.specs.declared.Entry.{Entry}
 use Rattle.pairing.specs.declared.Pair.{Pair}
 use Rattle.pairing.specs.declared.Rule.{Rule}
-use Rattle.pairing.specs.declared.Rule.the-variants.{Equal, Near, Every}
+use Rattle.pairing.specs.declared.Rule.the-variants.{Equal, Near}
 use Rattle.journal.specs.declared.Answer.{Answer}
 use Rattle.journal.specs.declared.Answer.the-variants as answer
 use Rattle.join.specs.declared.Took.{Took}
 use Rattle.join.specs.declared.Took.the-variants as took
 use Rattle.join.specs.State.{State}
 use Rattle.join.specs.Calls.{entryCall, markCall, closeCall, takeCall, waitingIn, readyIn}
-use Rattle.demands.specs.History.{Call, Enter, Mark, Close, Take, after, World, begin, run}
+use Rattle.demands.specs.History.{Call, Enter, Mark, Close, Take, after, begin, run}
 
 -- ---- what a bench looks at
 

@@ -1,19 +1,18 @@
 -- Demands 2 and 3, of any calls with any arguments made of a fresh join with any rule.
 use Prim.Native.Nat.{ℕ, _*_}
-use mathlib.Core.Bool.{Bool, true, cond, _||_}
+use mathlib.Core.Bool.{true, cond, _||_}
 use mathlib.Core.List.{List, [], _++_, Perm, IsPrefix}
 use mathlib.Core.Path.{_≡_}
 use lib.ListN.{length}
 use Rattle.interval.specs.Interval.{holdsAt}
 use Rattle.lists.specs.Keep.{keep}
-use Rattle.pairing.specs.declared.Entry.{Entry}
 use Rattle.pairing.specs.declared.Pair.{Pair}
 use Rattle.pairing.specs.declared.Rule.{Rule}
 use Rattle.pairing.specs.Plain.{numberedFrom, plain, couplesAt}
 use Rattle.journal.specs.Journal.{isClosed}
 use Rattle.area.specs.Area as area
 use Rattle.join.specs.declared.Took.the-variants.{Finished}
-use Rattle.join.specs.State.{State, freshState}
+use Rattle.join.specs.State.{freshState}
 use Rattle.join.specs.Calls.{waitingIn, readyIn, bothClosed, takeCall}
 use Rattle.demands.specs.History.{Call, isTake, World, begin, run, refused, heeded}
 use Rattle.demands.specs.Stream.{EachOnce, Element, sameElement, Couple, couple, sameCouple, joined, streamOf, streamOfPairs, matches}
@@ -32,13 +31,13 @@ module _ (rule : Rule) (w : World) where
   abbrev pub Joins : Type 0
   Joins = (e : Couple) (t : ℕ) → streamOfPairs (pairsOf w) .count e t ≡ joined (matches rule) couple sameCouple (streamOf (w .ofA)) (streamOf (w .ofB)) e t
 
-  -- that sum has a term for each two elements that hold then, and no term twice
-  abbrev pub TermsOnce : Type 0
-  TermsOnce = EachOnce sameElement (streamOf (w .ofA)) × EachOnce sameElement (streamOf (w .ofB))
-
   -- the same with the one term that is left of the sum, as no other two elements give the same couple
   abbrev pub Multiplies : Type 0
   Multiplies = (x y : Element) (t : ℕ) → streamOfPairs (pairsOf w) .count (couple x y) t ≡ cond (matches rule x y) (streamOf (w .ofA) .count x t * streamOf (w .ofB) .count y t) 0
+
+-- the sum has a term for every two elements that hold at an instant, and none twice
+abbrev pub TermsOnce : World → Type 0
+TermsOnce w = EachOnce sameElement (streamOf (w .ofA)) × EachOnce sameElement (streamOf (w .ofB))
 
 -- The area of a journal holds exactly its wanted accepted entries, in ordinal order.
 abbrev pub HoldsWanted : World → Type 0
@@ -82,10 +81,9 @@ NoMore w later =
 abbrev pub OnlyTakes : World → Type 0
 OnlyTakes w = bothClosed (w .state) ≡ true → (c : Call) → isTake c || refused (w .state) c ≡ true
 
--- two histories with the same accepted entries in each journal, both closed and emptied, handed out the same list
+-- two histories with the same accepted entries in each journal and nothing waiting, as when both are closed and emptied, handed out the same list, however they interleaved
 abbrev pub Agree : World → World → Type 0
-Agree v w =
-    v .ofA ≡ w .ofA → v .ofB ≡ w .ofB → bothClosed (v .state) ≡ true → bothClosed (w .state) ≡ true → waitingIn (v .state) ≡ [] → waitingIn (w .state) ≡ [] → v .out ≡ w .out
+Agree v w = v .ofA ≡ w .ofA → v .ofB ≡ w .ofB → waitingIn (v .state) ≡ [] → waitingIn (w .state) ≡ [] → v .out ≡ w .out
 
 -- ---- after any calls, and of any end that the run may come to
 
@@ -97,7 +95,7 @@ pub record Demands (rule : Rule) (calls more : List Call) : Type 0 where
   pub unrefused : ran rule (heeded (freshState rule) calls) ≡ ran rule calls
   pub eachInstant : EachInstant rule (ran rule calls)
   pub joins : Joins rule (ran rule calls)
-  pub termsOnce : TermsOnce rule (ran rule calls)
+  pub termsOnce : TermsOnce (ran rule calls)
   pub multiplies : Multiplies rule (ran rule calls)
   pub holdsWanted : HoldsWanted (ran rule calls)
   pub countsAccepted : CountsAccepted (ran rule calls)

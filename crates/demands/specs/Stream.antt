@@ -18,6 +18,7 @@ pub record Stream (E : Type 0) : Type 0 where
   pub elements : List E
   pub count : E → ℕ → ℕ
 
+-- an element that holds at some instant stands once among them
 abbrev pub EachOnce : {E : Type 0} → (E → E → Bool) → Stream E → Type 0
 EachOnce {E} same S = (e : E) (t : ℕ) → 0 < S .count e t → tally (λ (x : E). same x e) (S .elements) ≡ 1
 
