@@ -1,2 +1,12 @@
+pub mod Refused
+pub mod Gates
+pub mod Views
+pub mod Invariant
+pub mod Follows
+pub mod Sums
+pub mod Streams
+pub mod Demands
 pub mod Reached
 pub mod Takes
+pub mod Bench
+pub mod Broken

@@ -1,11 +1,14 @@
 -- Any calls, with any arguments, made of a join: which entries were accepted, which pairs were handed out, and the state after them.
 use Prim.Native.Nat.{ℕ}
+use mathlib.Core.Bool.{Bool, true, false, cond}
 use mathlib.Core.List.{List, [], _∷_, _++_}
 use Rattle.pairing.specs.declared.Entry.{Entry}
 use Rattle.pairing.specs.declared.Pair.{Pair}
 use Rattle.pairing.specs.declared.Rule.{Rule}
 use Rattle.pairing.specs.declared.Side.{Side}
 use Rattle.pairing.specs.declared.Side.the-variants.{A, B}
+use Rattle.journal.specs.declared.Answer.{Answer}
+use Rattle.journal.specs.declared.Answer.the-variants as answer
 use Rattle.journal.specs.Answer.{unlessRefused}
 use Rattle.join.specs.declared.Took.{Took}
 use Rattle.join.specs.declared.Took.the-variants.{Handed, Waiting, Finished, Refused}
@@ -17,6 +20,12 @@ pub data Call : Type 0 where
   Mark : ℕ → ℕ → Call
   Close : ℕ → Call
   Take : Call
+
+abbrev pub isTake : Call → Bool
+isTake (Enter stream e) = false
+isTake (Mark stream time) = false
+isTake (Close stream) = false
+isTake Take = true
 
 -- the state after a call
 abbrev pub after : State → Call → State
@@ -74,3 +83,27 @@ step w c = record {
 abbrev pub run : World → List Call → World
 run w [] = w
 run w (c ∷ cs) = run (step w c) cs
+
+-- ---- refused calls
+
+abbrev pub isRefusal : Answer → Bool
+isRefusal answer.Accepted = false
+isRefusal (answer.Refused number) = true
+
+abbrev pub isTakeRefusal : Took → Bool
+isTakeRefusal (Handed p) = false
+isTakeRefusal Waiting = false
+isTakeRefusal Finished = false
+isTakeRefusal (Refused number) = true
+
+-- a call that a state answers with a refusal
+abbrev pub refused : State → Call → Bool
+refused s (Enter stream e) = isRefusal (entryCall s stream e .answer)
+refused s (Mark stream time) = isRefusal (markCall s stream time .answer)
+refused s (Close stream) = isRefusal (closeCall s stream .answer)
+refused s Take = isTakeRefusal (takeCall s .answer)
+
+-- those of some calls that are not refused, each judged in the state that it met
+abbrev pub heeded : State → List Call → List Call
+heeded s [] = []
+heeded s (c ∷ cs) = cond (refused s c) (heeded (after s c) cs) (c ∷ heeded (after s c) cs)

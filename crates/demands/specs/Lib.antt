@@ -1,2 +1,5 @@
 pub mod History
 pub mod Takes
+pub mod Stream
+pub mod Demands
+pub mod Bench

@@ -103,16 +103,41 @@ module _ {A : Type 0} where
   keep-same-test p q h [] = refl
   keep-same-test p q h (x ∷ xs) = rw (h x, keep-same-test p q h xs)
 
-  -- a test that passes less leaves nothing of another that passes more
+  -- a test that passes less, after one that passes more
   pub keep-keep : (p q : A → Bool) → ((x : A) → p x ≡ true → q x ≡ true) → (xs : List A) → keep p (keep q xs) ≡ keep p xs
-  keep-keep p q h [] = refl
-  keep-keep p q h (x ∷ xs) = go (p x) (q x) refl refl (keep-keep p q h xs)
+  keep-keep p q i [] = refl
+  keep-keep p q i (x ∷ xs) = go (p x) (q x) refl refl (keep-keep p q i xs)
     where
       go : (b c : Bool) → p x ≡ b → q x ≡ c → keep p (keep q xs) ≡ keep p xs → keep p (cond c (x ∷ keep q xs) (keep q xs)) ≡ cond b (x ∷ keep p xs) (keep p xs)
-      go true true s t e = rw (s, e)
-      go true false s t e = absurd (true≢false (sym (h x s) ∙ t))
-      go false true s t e = rw s e
-      go false false s t e = e
+      go true true h k e = rw (h, e)
+      go true false h k e = absurd (true≢false (sym (i x h) ∙ k))
+      go false true h k e = rw h e
+      go false false h k e = e
+
+  -- a test that passes more counts no fewer
+  pub tally-more : (p q : A → Bool) → ((x : A) → p x ≡ true → q x ≡ true) → (xs : List A) → tally p xs ≤ tally q xs
+  tally-more p q i [] = omega arith
+  tally-more p q i (x ∷ xs) = go (p x) (q x) refl refl (tally-more p q i xs)
+    where
+      go : (b c : Bool) → p x ≡ b → q x ≡ c → tally p xs ≤ tally q xs → cond b (suc (tally p xs)) (tally p xs) ≤ cond c (suc (tally q xs)) (tally q xs)
+      go true true h k l = omega arith
+      go true false h k l = absurd (true≢false (sym (i x h) ∙ k))
+      go false true h k l = omega arith
+      go false false h k l = l
+
+  -- what another test lets through is counted, what it stops is not
+  pub tally-through : (p q : A → Bool) → ((x : A) → p x ≡ true → q x ≡ true) → (xs : List A) → tally p (keep q xs) ≡ tally p xs
+  tally-through p q i xs = tally-keep p (keep q xs) ∙ ap length (keep-keep p q i xs) ∙ sym (tally-keep p xs)
+
+  pub tally-stopped : (p q : A → Bool) → ((x : A) → p x ≡ true → q x ≡ false) → (xs : List A) → tally p (keep q xs) ≡ 0
+  tally-stopped p q i [] = refl
+  tally-stopped p q i (x ∷ xs) = go (p x) (q x) refl refl (tally-stopped p q i xs)
+    where
+      go : (b c : Bool) → p x ≡ b → q x ≡ c → tally p (keep q xs) ≡ 0 → tally p (cond c (x ∷ keep q xs) (keep q xs)) ≡ 0
+      go true true h k e = absurd (true≢false (sym k ∙ i x h))
+      go true false h k e = e
+      go false true h k e = rw h e
+      go false false h k e = e
 
   pub all-keep : (P : A → Type 0) (p : A → Bool) (xs : List A) → All P xs → All P (keep p xs)
   all-keep P p [] h = tt
@@ -142,3 +167,7 @@ pub keep-flatMap : {A B : Type 0} (p : B → Bool) (f : A → List B) (xs : List
 unfolding flatMap
 keep-flatMap p f [] = refl
 keep-flatMap p f (x ∷ xs) = rw (keep-append, keep-flatMap p f xs)
+
+pub tally-map : {A B : Type 0} (p : B → Bool) (f : A → B) (xs : List A) → tally p (map f xs) ≡ tally (λ (x : A). p (f x)) xs
+tally-map p f [] = refl
+tally-map p f (x ∷ xs) = rw (tally-map p f xs)

@@ -6,7 +6,7 @@ use mathlib.Core.List.{List, [], _∷_, _++_, append-nil, Perm, Perm·refl, Perm
 use mathlib.Core.Logic.{_⊎_, inl, inr}
 use mathlib.Core.Path.{_≡_, refl, sym, ap, _∙_}
 use lib.ListN.{length}
-use Rattle.lists.specs.Keep.{keep}
+use Rattle.lists.specs.Keep.{keep, tally}
 use Rattle.lists.specs.Sort.{insertBy, insertAllBy, sortBy}
 use Rattle.lists.proofs.All.{All, Each, all-any, all-map, all-map₂}
 use Rattle.lists.proofs.Order.{StrictOrder, Apart, Ascending}
@@ -56,18 +56,53 @@ module _ {A : Type 0} (before : A → A → Bool) where
   all-insertAllBy P [] l h k = k
   all-insertAllBy P (x ∷ xs) l h k = all-insertAllBy P xs (insertBy before x l) (h .1) (all-insertBy P x l (h .0) k)
 
-  -- what a test does not pass is put in unseen by it
+  -- elements that come before none of d go behind d
+  insertBy-behind : (x : A) (d l : List A) → All (λ (y : A). before x y ≡ false) d → insertBy before x (d ++ l) ≡ d ++ insertBy before x l
+  insertBy-behind x [] l h = refl
+  insertBy-behind x (y ∷ d) l h = rw (h .0, insertBy-behind x d l (h .1))
+
+  pub insertAllBy-behind : (xs d l : List A) → All (λ (x : A). All (λ (y : A). before x y ≡ false) d) xs → insertAllBy before xs (d ++ l) ≡ d ++ insertAllBy before xs l
+  insertAllBy-behind [] d l h = refl
+  insertAllBy-behind (x ∷ xs) d l h = rw (insertBy-behind x d l (h .0)) (insertAllBy-behind xs d (insertBy before x l) (h .1))
+
+  -- what a test does not pass may be put in or not
   keep-insertBy : (p : A → Bool) (x : A) (l : List A) → p x ≡ false → keep p (insertBy before x l) ≡ keep p l
   keep-insertBy p x [] h = rw h
   keep-insertBy p x (y ∷ l) h = go (before x y) (keep-insertBy p x l h)
     where
       go : (b : Bool) → keep p (insertBy before x l) ≡ keep p l → keep p (cond b (x ∷ y ∷ l) (y ∷ insertBy before x l)) ≡ keep p (y ∷ l)
-      go true e = rw h
-      go false e = rw e
+      go true i = rw h
+      go false i = rw i
 
   pub keep-insertAllBy : (p : A → Bool) (xs l : List A) → All (λ (x : A). p x ≡ false) xs → keep p (insertAllBy before xs l) ≡ keep p l
   keep-insertAllBy p [] l h = refl
   keep-insertAllBy p (x ∷ xs) l h = keep-insertAllBy p xs (insertBy before x l) (h .1) ∙ keep-insertBy p x l (h .0)
+
+  -- sorting changes no count
+  tally-insertBy : (p : A → Bool) (x : A) (l : List A) → tally p (insertBy before x l) ≡ tally p (x ∷ l)
+  tally-insertBy p x [] = refl
+  tally-insertBy p x (y ∷ l) = go (before x y) (tally-insertBy p x l)
+    where
+      swap : (b c : Bool) (n : ℕ) → cond c (suc (cond b (suc n) n)) (cond b (suc n) n) ≡ cond b (suc (cond c (suc n) n)) (cond c (suc n) n)
+      swap true true n = refl
+      swap true false n = refl
+      swap false true n = refl
+      swap false false n = refl
+
+      go : (b : Bool) → tally p (insertBy before x l) ≡ tally p (x ∷ l) → tally p (cond b (x ∷ y ∷ l) (y ∷ insertBy before x l)) ≡ tally p (x ∷ y ∷ l)
+      go true i = refl
+      go false i = ap (λ (n : ℕ). cond (p y) (suc n) n) i ∙ swap (p x) (p y) (tally p l)
+
+  tally-insertAllBy : (p : A → Bool) (xs l : List A) → tally p (insertAllBy before xs l) ≡ tally p xs + tally p l
+  tally-insertAllBy p [] l = omega arith
+  tally-insertAllBy p (x ∷ xs) l = tally-insertAllBy p xs (insertBy before x l) ∙ rw (tally-insertBy p x l) (go (p x))
+    where
+      go : (b : Bool) → tally p xs + cond b (suc (tally p l)) (tally p l) ≡ cond b (suc (tally p xs)) (tally p xs) + tally p l
+      go true = omega arith
+      go false = refl
+
+  pub tally-sortBy : (p : A → Bool) (xs : List A) → tally p (sortBy before xs) ≡ tally p xs
+  tally-sortBy p xs = tally-insertAllBy p xs [] ∙ omega arith
 
 module _ {A : Type 0} (before : A → A → Bool) (strict : StrictOrder before) where
   -- two elements that differ in order may be put in either way round

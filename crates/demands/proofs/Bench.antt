@@ -1,0 +1,18 @@
+-- The twelve bench examples hold, by computing what each line's calls come to.
+use mathlib.Core.List.{flatMap}
+use mathlib.Core.Path.{refl}
+use Rattle.interval.specs.Interval.{properOf, meetingOf}
+use Rattle.lists.specs.Sort.{ascending, neither}
+use Rattle.lists.specs.Store.{padTo}
+use Rattle.pairing.specs.Pair.{pairs, partnerOf, pairOf, comesBefore}
+use Rattle.pairing.specs.Plain.{coupleThat, couplesThat}
+use Rattle.pairing.specs.Rule.{distance, fits}
+use Rattle.area.specs.Area.{heldIn, rowOf as heldRow, soundArea}
+use Rattle.queue.specs.Queue.{pairIn, rowOf as pairRow, soundQueue, ready}
+use Rattle.join.specs.State.{view, stateOf, sound, freshState}
+use Rattle.join.specs.Calls.{entryRows, afterEntry, entryCall, afterMove, markCall, closeCall, takeCall, without}
+use Rattle.demands.specs.Bench.{table, Benches}
+
+pub benches : Benches
+unfolding flatMap properOf meetingOf ascending neither padTo pairs partnerOf pairOf comesBefore coupleThat couplesThat distance fits heldIn heldRow soundArea pairIn pairRow soundQueue ready view stateOf sound freshState entryRows afterEntry entryCall afterMove markCall closeCall takeCall without table
+benches = refl
