@@ -1,0 +1,84 @@
+-- Laws of little-endian numbers, over any width.
+use Prim.Native.Nat.{ℕ, zero, suc, _+_, _*_, _/_, _%_, _^_, _≤_, _<_}
+use native.Mathlib.Nat.{pow-zero, pow-suc, mul-add, mul-assoc, mul-comm, one-mul, zero-add}
+use native.Mathlib.Numerals.{add-one}
+use native.Mathlib.Omega.{arith}
+use mathlib.Core.List.{List, [], _∷_, _++_, append-assoc}
+use mathlib.Core.Path.{_≡_, refl, sym, ap, _∙_}
+use lib.ListN.{length, take, drop, getD, length-append, length-take, length-drop}
+use lib.Seq.{take-at, drop-at, drop-drop, drop-cons, take-add, length-take-le}
+use Rattle.feed.specs.Number.{Bytes, value, bytes, put}
+
+-- ---- a number and its bytes
+
+pub bytes-length : (n x : ℕ) → length (bytes n x) ≡ n
+bytes-length zero x = refl
+bytes-length (suc n) x = ap suc (bytes-length n (x / 256))
+
+pub bytes-bytes : (n x : ℕ) → Bytes (bytes n x)
+bytes-bytes zero x = tt
+bytes-bytes (suc n) x = (omega arith, bytes-bytes n (x / 256))
+
+-- a number that has room in n bytes is read back from them
+pub value-bytes : (n x : ℕ) → x < 256 ^ n → value (bytes n x) ≡ x
+value-bytes zero x h = let e = pow-zero 256 in omega arith
+value-bytes (suc n) x h =
+    let e = pow-suc 256 n in
+    let i = value-bytes n (x / 256) (omega arith) in
+    omega arith
+
+-- bytes are written back as they were read
+pub bytes-value : (bs : List ℕ) → Bytes bs → bytes (length bs) (value bs) ≡ bs
+bytes-value [] h = refl
+bytes-value (b ∷ bs) h =
+    let low : (b + 256 * value bs) % 256 ≡ b = let l = h .0 in omega arith in
+    let high : (b + 256 * value bs) / 256 ≡ value bs = let l = h .0 in omega arith in
+    rw (low, high, bytes-value bs (h .1))
+
+-- a number of n bytes has room in n bytes
+pub value-room : (bs : List ℕ) → Bytes bs → value bs < 256 ^ length bs
+value-room [] h = let e = pow-zero 256 in omega arith
+value-room (b ∷ bs) h =
+    let e = pow-suc 256 (length bs) in
+    let i = value-room bs (h .1) in
+    let l = h .0 in
+    omega arith
+
+-- bytes that follow others count by as many powers of 256
+pub value-append : (xs ys : List ℕ) → value (xs ++ ys) ≡ value xs + 256 ^ length xs * value ys
+value-append [] ys = let e = pow-zero 256 in rw (e, one-mul, zero-add)
+value-append (x ∷ xs) ys =
+    let i = value-append xs ys in
+    let e : 256 * (256 ^ length xs * value ys) ≡ 256 ^ suc (length xs) * value ys = rw (pow-suc 256 (length xs), mul-comm (256 ^ length xs) 256, mul-assoc) in
+    omega arith
+
+-- a number read in two parts
+pub value-split : (m n : ℕ) (bs : List ℕ) → m ≤ length bs → value (take (m + n) bs) ≡ value (take m bs) + 256 ^ m * value (take n (drop m bs))
+value-split m n bs h = rw (take-add m n bs, value-append (take m bs) (take n (drop m bs)), length-take-le m bs h)
+
+-- the bytes from a place on, one by one
+pub take-next : (n at : ℕ) (s : List ℕ) → at < length s → take (suc n) (drop at s) ≡ getD s at 0 ∷ take n (drop (at + 1) s)
+take-next n at s h = rw (add-one, drop-cons s at 0 h)
+
+-- ---- bytes put into a buffer
+
+pub put-length : (at : ℕ) (bs buf : List ℕ) → at + length bs ≤ length buf → length (put at bs buf) ≡ length buf
+unfolding put
+put-length at bs buf h = simp (length-append, length-take, length-drop) (omega arith)
+
+-- bytes put behind others that were put
+pub put-put : (at : ℕ) (xs ys buf : List ℕ) → at + length xs + length ys ≤ length buf → put (at + length xs) ys (put at xs buf) ≡ put at (xs ++ ys) buf
+unfolding put
+put-put at xs ys buf h =
+    let front = take at buf ++ xs in
+    let back = drop (at + length xs) buf in
+    let long : length front ≡ at + length xs = simp (length-append, length-take) (omega arith) in
+    let whole : at + length (xs ++ ys) ≡ at + length xs + length ys = simp length-append (omega arith) in
+    let rest : drop (at + length xs + length ys) (front ++ back) ≡ drop (at + length (xs ++ ys)) buf =
+    rw (← drop-drop (length ys) (at + length xs) (front ++ back), drop-at front back (at + length xs) long, drop-drop (length ys) (at + length xs) buf, whole) in
+    rw (take-at front back (at + length xs) long, rest, append-assoc (take at buf) xs ys)
+
+-- bytes put at the start of a buffer that has room for them
+pub put-first : (bs buf : List ℕ) → put 0 bs buf ≡ bs ++ drop (length bs) buf
+unfolding put
+put-first bs buf = rw zero-add

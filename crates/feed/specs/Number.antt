@@ -1,0 +1,23 @@
+-- House layout, little-endian. A number of a width is so many bytes, the least first.
+use Prim.Native.Nat.{ℕ, zero, suc, _+_, _*_, _/_, _%_, _<_}
+use mathlib.Core.List.{List, [], _∷_, _++_}
+use lib.ListN.{length, take, drop}
+
+-- a list of bytes
+abbrev pub Bytes : List ℕ → Type 0
+Bytes [] = Unit {0}
+Bytes (b ∷ bs) = (b < 256) × Bytes bs
+
+-- the number in some bytes
+abbrev pub value : List ℕ → ℕ
+value [] = 0
+value (b ∷ bs) = b + 256 * value bs
+
+-- a number in n bytes
+abbrev pub bytes : ℕ → ℕ → List ℕ
+bytes zero x = []
+bytes (suc n) x = x % 256 ∷ bytes n (x / 256)
+
+-- some bytes put over as many of a buffer from a place on; no other byte is touched
+unfoldable pub put : ℕ → List ℕ → List ℕ → List ℕ
+put at bs buf = take at buf ++ bs ++ drop (at + length bs) buf
