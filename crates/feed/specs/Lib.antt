@@ -1,1 +1,4 @@
 pub mod Number
+pub mod Kind
+pub mod Record
+pub mod Reading

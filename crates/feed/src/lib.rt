@@ -1,9 +1,72 @@
 // Feed records: a feed is bytes, one record after another. Each is read at its place and written into a lent buffer.
+use interval::Interval;
+use pairing::Entry;
+use pairing::Pair;
+use pairing::Partner;
 ghost use mathlib.Core.Path.{_≡_};
 ghost use mathlib.Core.List.{_++_};
 ghost use Prim.Native.Nat.{_+_, _≤_};
 ghost use lib.ListN.{length, take, drop};
 ghost use Rattle.feed.specs.Number.{value, bytes, put};
+ghost use Rattle.feed.specs.Kind.{lengthsOf};
+ghost use Rattle.feed.specs.Record.{recordOf, streamKnown};
+ghost use Rattle.feed.specs.Reading.{outside, kindChecks, headUnless, headOf, reading, pairReading};
+
+const ENTRY: u16 = 1;
+
+const MARK: u16 = 2;
+
+const CLOSE: u16 = 3;
+
+const NOTE: u16 = 4;
+
+const PAIR: u16 = 257;
+
+// A record of an input feed. A number before another is its stream.
+pub enum Record {
+    Entry(u16, Entry),
+    Mark(u16, u32),
+    Close(u16),
+    // As many bytes of text, which stand at the record's end.
+    Note(usize),
+}
+
+// What reading an input feed at a place finds.
+pub enum Reading {
+    // A record and the place of the next.
+    Found(Record, usize),
+    // The number of the refusal and its place, the record's first byte.
+    Refused(u32, usize),
+    // No byte is left.
+    End,
+}
+
+// What reading an output feed at a place finds.
+pub enum PairReading {
+    Found(Pair, usize),
+    Refused(u32, usize),
+    End,
+}
+
+// The two kinds of feed, which know different kinds of record.
+pub enum Feed {
+    Input,
+    Output,
+}
+
+// The lengths that records of a kind have, if the feed knows it.
+pub enum Lengths {
+    Unknown,
+    Within(u16, u16),
+}
+
+// What stands first in the rest of a feed.
+pub enum Head {
+    // A whole record: its kind and its length.
+    Whole(u16, u16),
+    Refused(u32),
+    End,
+}
 
 // The number in two bytes from a place on, the least byte first.
 fn get16(s: &[u8], at: usize) -> u16
@@ -39,4 +102,81 @@ fn put32(buf: &mut [u8], at: usize, x: u32)
 {
     put16(buf, at, (x % 65536) as u16);
     put16(buf, at + 2, (x / 65536) as u16);
+}
+
+// Is a length below the shortest or above the longest?
+fn outside(size: u16, shortest: u16, longest: u16) -> bool
+    ensures { λ r. ⌜ r ≡ outside shortest longest size ⌝ }
+{
+    size < shortest || longest < size
+}
+
+impl Feed {
+    // The table of kinds.
+    fn lengths(self, kind: u16) -> Lengths
+        ensures { λ r. ⌜ r ≡ lengthsOf self kind ⌝ }
+    {
+        match self {
+            Feed::Input => match kind {
+                ENTRY => Lengths::Within(20, 20),
+                MARK => Lengths::Within(8, 8),
+                CLOSE => Lengths::Within(4, 4),
+                NOTE => Lengths::Within(2, 66),
+                _ => Lengths::Unknown,
+            },
+            Feed::Output => match kind {
+                PAIR => Lengths::Within(34, 34),
+                _ => Lengths::Unknown,
+            },
+        }
+    }
+
+    // The checks of a record's kind, and of its length for the kind.
+    fn whole(self, kind: u16, size: u16) -> Head
+        ensures { λ r. ⌜ r ≡ headUnless (kindChecks self kind size) kind size ⌝ }
+    {
+        let lengths = self.lengths(kind);
+        let Lengths::Within(shortest, longest) = lengths else {
+            return Head::Refused(11);
+        };
+        if outside(size, shortest, longest) {
+            return Head::Refused(10);
+        }
+        Head::Whole(kind, size)
+    }
+
+    // The checks that both feeds share, on what is left of a feed.
+    fn head(self, s: &[u8]) -> Head
+        ensures { λ r. ⌜ r ≡ headOf self (now (s .entry)) ⌝ }
+    {
+        if s.len() == 0 {
+            return Head::End;
+        }
+        if s.len() < 2 {
+            return Head::Refused(9);
+        }
+        let size = get16(s, 0);
+        if outside(size, 2, 66) {
+            return Head::Refused(10);
+        }
+        if s.len() - 2 < size as usize {
+            return Head::Refused(9);
+        }
+        let kind = get16(s, 2);
+        self.whole(kind, size)
+    }
+}
+
+impl Record {
+    // Is its stream 0 or 1? A note has none.
+    fn stream_known(self) -> bool
+        ensures { λ r. ⌜ r ≡ streamKnown self ⌝ }
+    {
+        match self {
+            Record::Entry(stream, _) => stream < 2,
+            Record::Mark(stream, _) => stream < 2,
+            Record::Close(stream) => stream < 2,
+            Record::Note(_) => true,
+        }
+    }
 }
