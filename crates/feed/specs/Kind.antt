@@ -70,3 +70,7 @@ packed (width ∷ widths) (number ∷ numbers) = bytes width number ++ packed wi
 abbrev pub unpacked : List ℕ → List ℕ → List ℕ
 unpacked [] bs = []
 unpacked (width ∷ widths) bs = value (take width bs) ∷ unpacked widths (drop width bs)
+
+-- the numbers in the fields of a record of a kind that stands first in some bytes, behind its length and its kind
+abbrev pub fieldsIn : Kind → List ℕ → List ℕ
+fieldsIn kind bs = unpacked (kind .fields) (drop 4 bs)

@@ -16,8 +16,8 @@ use Rattle.feed.specs.declared.PairReading.{PairReading}
 use Rattle.feed.specs.declared.PairReading.the-variants.{Found as FoundPair, Refused as refusedPair, End as noPair}
 use Rattle.feed.specs.declared.Record.{Record}
 use Rattle.feed.specs.Number.{value}
-use Rattle.feed.specs.Kind.{pair, lengthsOf, unpacked}
-use Rattle.feed.specs.Record.{recordOf, pairOf, streamKnown}
+use Rattle.feed.specs.Kind.{pair, lengthsOf, fieldsIn}
+use Rattle.feed.specs.Record.{recordIn, pairOf, streamKnown}
 
 -- the number of the first check that applies, 0 where none does
 abbrev pub firstOf : List (Bool × ℕ) → ℕ
@@ -76,7 +76,7 @@ foundAt at found next = unless (firstOf ((not (streamKnown found), 1) ∷ [])) (
 
 -- the answer to a head at a place, with the bytes that are left there
 abbrev pub readingOf : ℕ → List ℕ → Head → Reading
-readingOf at bs (Whole kind size) = foundAt at (recordOf kind size (drop 4 bs)) (at + 2 + size)
+readingOf at bs (Whole kind size) = foundAt at (recordIn kind size bs) (at + 2 + size)
 readingOf at bs (refusedHead number) = Refused number at
 readingOf at bs noHead = End
 
@@ -86,7 +86,7 @@ reading s at = readingOf at (drop at s) (headOf Input (drop at s))
 
 -- a reading of an output feed
 abbrev pub pairReadingOf : ℕ → List ℕ → Head → PairReading
-pairReadingOf at bs (Whole kind size) = FoundPair (pairOf (unpacked (pair .fields) (drop 4 bs))) (at + 2 + size)
+pairReadingOf at bs (Whole kind size) = FoundPair (pairOf (fieldsIn pair bs)) (at + 2 + size)
 pairReadingOf at bs (refusedHead number) = refusedPair number at
 pairReadingOf at bs noHead = noPair
 

@@ -8,7 +8,7 @@ use Rattle.pairing.specs.declared.Entry.{Entry}
 use Rattle.pairing.specs.declared.Pair.{Pair}
 use Rattle.feed.specs.declared.Record.{Record}
 use Rattle.feed.specs.declared.Record.the-variants.{Entry as entryRecord, Mark, Close, Note}
-use Rattle.feed.specs.Kind.{entry, mark, close, note, pair, framed, packed, unpacked}
+use Rattle.feed.specs.Kind.{entry, mark, close, note, pair, framed, packed, fieldsIn}
 
 -- stream, start, end, key, value
 abbrev pub entryNumbers : ℕ → Entry → List ℕ
@@ -18,6 +18,20 @@ abbrev pub entryOf : List ℕ → Record
 entryOf numbers =
     entryRecord (getD numbers 0 0)
     (record { span = record { start = getD numbers 1 0; end = getD numbers 2 0 }; key = getD numbers 3 0; value = getD numbers 4 0 })
+
+-- stream, time
+abbrev pub markNumbers : ℕ → ℕ → List ℕ
+markNumbers stream time = stream ∷ time ∷ []
+
+abbrev pub markOf : List ℕ → Record
+markOf numbers = Mark (getD numbers 0 0) (getD numbers 1 0)
+
+-- stream
+abbrev pub closeNumbers : ℕ → List ℕ
+closeNumbers stream = stream ∷ []
+
+abbrev pub closeOf : List ℕ → Record
+closeOf numbers = Close (getD numbers 0 0)
 
 -- start, end, A ordinal, B ordinal, A key, B key, A value, B value
 abbrev pub pairNumbers : Pair → List ℕ
@@ -32,19 +46,19 @@ pairOf numbers =
       b = record { ordinal = getD numbers 3 0; key = getD numbers 5 0; value = getD numbers 7 0 };
     }
 
--- the record of a kind with a length, from the bytes of its fields and what follows them
-unfoldable pub recordOf : ℕ → ℕ → List ℕ → Record
-recordOf kind size bs =
-    cond (eqb kind (entry .number)) (entryOf (unpacked (entry .fields) bs))
-    (cond (eqb kind (mark .number)) (Mark (getD (unpacked (mark .fields) bs) 0 0) (getD (unpacked (mark .fields) bs) 1 0))
-    (cond (eqb kind (close .number)) (Close (getD (unpacked (close .fields) bs) 0 0))
+-- the record of a kind and a length that stands first in some bytes
+unfoldable pub recordIn : ℕ → ℕ → List ℕ → Record
+recordIn kind size bs =
+    cond (eqb kind (entry .number)) (entryOf (fieldsIn entry bs))
+    (cond (eqb kind (mark .number)) (markOf (fieldsIn mark bs))
+    (cond (eqb kind (close .number)) (closeOf (fieldsIn close bs))
     (Note (size - 2))))
 
 -- the bytes of a record, a note's with its text
 unfoldable pub recordBytes : Record → List ℕ → List ℕ
 recordBytes (entryRecord stream e) text = framed (entry .number) (packed (entry .fields) (entryNumbers stream e))
-recordBytes (Mark stream time) text = framed (mark .number) (packed (mark .fields) (stream ∷ time ∷ []))
-recordBytes (Close stream) text = framed (close .number) (packed (close .fields) (stream ∷ []))
+recordBytes (Mark stream time) text = framed (mark .number) (packed (mark .fields) (markNumbers stream time))
+recordBytes (Close stream) text = framed (close .number) (packed (close .fields) (closeNumbers stream))
 recordBytes (Note size) text = framed (note .number) text
 
 unfoldable pub pairBytes : Pair → List ℕ

@@ -8,9 +8,9 @@ ghost use mathlib.Core.List.{_++_};
 ghost use Prim.Native.Nat.{_+_, _≤_};
 ghost use lib.ListN.{length, take, drop};
 ghost use Rattle.feed.specs.Number.{value, bytes, put};
-ghost use Rattle.feed.specs.Kind.{lengthsOf};
-ghost use Rattle.feed.specs.Record.{recordOf, streamKnown};
-ghost use Rattle.feed.specs.Reading.{outside, kindChecks, headUnless, headOf, reading, pairReading};
+ghost use Rattle.feed.specs.Kind.{entry, mark, close, pair, lengthsOf, fieldsIn};
+ghost use Rattle.feed.specs.Record.{entryOf, markOf, closeOf, pairOf, recordIn, streamKnown};
+ghost use Rattle.feed.specs.Reading.{outside, kindChecks, headUnless, headOf, foundAt, reading, pairReading};
 
 const ENTRY: u16 = 1;
 
@@ -178,5 +178,124 @@ impl Record {
             Record::Close(stream) => stream < 2,
             Record::Note(_) => true,
         }
+    }
+}
+
+// The entry that stands first in s.
+fn entry_in(s: &[u8]) -> Record
+    requires { ⌜ 22 ≤ length (now s) ⌝ }
+    ensures { λ r. ⌜ r ≡ entryOf (fieldsIn entry (now (s .entry))) ⌝ }
+{
+    let stream = get16(s, 4);
+    let start = get32(s, 6);
+    let end = get32(s, 10);
+    let key = get32(s, 14);
+    let value = get32(s, 18);
+    let span = Interval { start, end };
+    Record::Entry(stream, Entry { span, key, value })
+}
+
+// The mark that stands first in s.
+fn mark_in(s: &[u8]) -> Record
+    requires { ⌜ 10 ≤ length (now s) ⌝ }
+    ensures { λ r. ⌜ r ≡ markOf (fieldsIn mark (now (s .entry))) ⌝ }
+{
+    let stream = get16(s, 4);
+    let time = get32(s, 6);
+    Record::Mark(stream, time)
+}
+
+// The close that stands first in s.
+fn close_in(s: &[u8]) -> Record
+    requires { ⌜ 6 ≤ length (now s) ⌝ }
+    ensures { λ r. ⌜ r ≡ closeOf (fieldsIn close (now (s .entry))) ⌝ }
+{
+    let stream = get16(s, 4);
+    Record::Close(stream)
+}
+
+// The pair that stands first in s.
+fn pair_in(s: &[u8]) -> Pair
+    requires { ⌜ 36 ≤ length (now s) ⌝ }
+    ensures { λ r. ⌜ r ≡ pairOf (fieldsIn pair (now (s .entry))) ⌝ }
+{
+    let start = get32(s, 4);
+    let end = get32(s, 8);
+    let a_ordinal = get32(s, 12);
+    let b_ordinal = get32(s, 16);
+    let a_key = get32(s, 20);
+    let b_key = get32(s, 24);
+    let a_value = get32(s, 28);
+    let b_value = get32(s, 32);
+    let meeting = Interval { start, end };
+    let a = Partner {
+        ordinal: a_ordinal,
+        key: a_key,
+        value: a_value,
+    };
+    let b = Partner {
+        ordinal: b_ordinal,
+        key: b_key,
+        value: b_value,
+    };
+    Pair { meeting, a, b }
+}
+
+// The record that stands first in s, after its head was found whole.
+fn record_in(kind: u16, size: u16, s: &[u8]) -> Record
+    requires { ⌜ headOf Feed.Input (now s) ≡ Head.Whole kind size ⌝ }
+    ensures { λ r. ⌜ r ≡ recordIn kind size (now (s .entry)) ⌝ }
+{
+    match kind {
+        ENTRY => entry_in(s),
+        MARK => mark_in(s),
+        CLOSE => close_in(s),
+        _ => Record::Note(size as usize - 2),
+    }
+}
+
+// The last check of a record that stands at a place.
+fn found(at: usize, record: Record, next: usize) -> Reading
+    ensures { λ r. ⌜ r ≡ foundAt at «record» next ⌝ }
+{
+    if record.stream_known() {
+        Reading::Found(record, next)
+    } else {
+        Reading::Refused(1, at)
+    }
+}
+
+// Reads the record at a place of an input feed.
+pub fn read(s: &[u8], at: usize) -> Reading
+    ensures { λ r. ⌜ r ≡ reading (now (s .entry)) at ⌝ }
+{
+    if s.len() <= at {
+        return Reading::End;
+    }
+    let rest = &s[at..];
+    let head = Feed::Input.head(rest);
+    match head {
+        Head::End => Reading::End,
+        Head::Refused(number) => Reading::Refused(number, at),
+        Head::Whole(kind, size) => {
+            let record = record_in(kind, size, rest);
+            found(at, record, at + 2 + size as usize)
+        }
+    }
+}
+
+// Reads the pair at a place of an output feed.
+pub fn read_pair(s: &[u8], at: usize) -> PairReading
+    ensures { λ r. ⌜ r ≡ pairReading (now (s .entry)) at ⌝ }
+{
+    if s.len() <= at {
+        return PairReading::End;
+    }
+    let rest = &s[at..];
+    let head = Feed::Output.head(rest);
+    match head {
+        Head::End => PairReading::End,
+        Head::Refused(number) => PairReading::Refused(number, at),
+        Head::Whole(_, size) => PairReading::Found(pair_in(rest), at + 2 + size as usize),
     }
 }
