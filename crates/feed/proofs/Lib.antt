@@ -2,3 +2,4 @@ pub mod Numbers
 pub mod Heads
 pub mod Fields
 pub mod Readings
+pub mod Writings

@@ -82,3 +82,7 @@ put-put at xs ys buf h =
 pub put-first : (bs buf : List ℕ) → put 0 bs buf ≡ bs ++ drop (length bs) buf
 unfolding put
 put-first bs buf = rw zero-add
+
+-- code that puts bytes, and more behind them
+pub put-then : (at : ℕ) (xs ys old : List ℕ) {mid new : List ℕ} → mid ≡ put at xs old → new ≡ put (at + length xs) ys mid → at + length xs + length ys ≤ length old → new ≡ put at (xs ++ ys) old
+put-then at xs ys old p q h = q ∙ ap (put (at + length xs) ys) p ∙ put-put at xs ys old h

@@ -2,3 +2,5 @@ pub mod Number
 pub mod Kind
 pub mod Record
 pub mod Reading
+pub mod Text
+pub mod Writing

@@ -4,12 +4,14 @@ use pairing::Entry;
 use pairing::Pair;
 use pairing::Partner;
 ghost use mathlib.Core.Path.{_≡_};
-ghost use mathlib.Core.List.{_++_};
+ghost use mathlib.Core.List.{[], _++_};
 ghost use Prim.Native.Nat.{_+_, _≤_};
 ghost use lib.ListN.{length, take, drop};
 ghost use Rattle.feed.specs.Number.{value, bytes, put};
 ghost use Rattle.feed.specs.Kind.{entry, mark, close, pair, lengthsOf, fieldsIn};
 ghost use Rattle.feed.specs.Record.{entryOf, markOf, closeOf, pairOf, recordIn, streamKnown};
+ghost use Rattle.feed.specs.Text.{textAt, IsStretch};
+ghost use Rattle.feed.specs.Writing.{recordWriting, pairWriting};
 ghost use Rattle.feed.specs.Reading.{outside, kindChecks, headUnless, headOf, foundAt, reading, pairReading};
 
 const ENTRY: u16 = 1;
@@ -46,6 +48,14 @@ pub enum PairReading {
     Found(Pair, usize),
     Refused(u32, usize),
     End,
+}
+
+// What writing a record answers.
+pub enum Writing {
+    // The record's whole length, the two length bytes included.
+    Written(usize),
+    // The number of the refusal.
+    Refused(u32),
 }
 
 // The two kinds of feed, which know different kinds of record.
@@ -102,6 +112,36 @@ fn put32(buf: &mut [u8], at: usize, x: u32)
 {
     put16(buf, at, (x % 65536) as u16);
     put16(buf, at + 2, (x / 65536) as u16);
+}
+
+// Two numbers of four bytes, one after the other.
+fn put_two(buf: &mut [u8], at: usize, x: u32, y: u32)
+    requires { ⌜ at + 8 ≤ length (now buf) ⌝ }
+    ensures { λ _. ⌜ now (buf .exit) ≡ put at (bytes 4 x ++ bytes 4 y) (now (buf .entry)) ⌝ }
+{
+    put32(buf, at, x);
+    put32(buf, at + 4, y);
+}
+
+// Some text into a buffer from a place on.
+fn put_text(buf: &mut [u8], at: usize, text: &[u8])
+    requires { ⌜ at + length (now text) ≤ length (now buf) ⌝ }
+    ensures { λ _. ⌜ now (buf .exit) ≡ put at (now (text .entry)) (now (buf .entry)) ⌝ }
+{
+    let mut i = 0;
+    while i < text.len() {
+        buf[at + i] = text[i];
+        i += 1;
+    }
+}
+
+// The length and the kind of a record, at the buffer's start.
+fn put_head(buf: &mut [u8], size: u16, kind: u16)
+    requires { ⌜ 4 ≤ length (now buf) ⌝ }
+    ensures { λ _. ⌜ now (buf .exit) ≡ put 0 (bytes 2 size ++ bytes 2 kind) (now (buf .entry)) ⌝ }
+{
+    put16(buf, 0, size);
+    put16(buf, 2, kind);
 }
 
 // Is a length below the shortest or above the longest?
@@ -298,4 +338,98 @@ pub fn read_pair(s: &[u8], at: usize) -> PairReading
         Head::Refused(number) => PairReading::Refused(number, at),
         Head::Whole(_, size) => PairReading::Found(pair_in(rest), at + 2 + size as usize),
     }
+}
+
+// The text of the note at a place of an input feed, as the very stretch of the feed that it occupies; an empty stretch for anything but a note.
+pub fn text(s: &[u8], at: usize) -> &[u8]
+    ensures { λ r. ⌜ IsStretch (s .entry) (textAt (now (s .entry)) at) r ⌝ }
+{
+    let found = read(s, at);
+    let Reading::Found(record, _) = found else {
+        return &s[..0];
+    };
+    let Record::Note(size) = record else {
+        return &s[..0];
+    };
+    let from = at + 4;
+    &s[from..from + size]
+}
+
+// Writes an entry of a stream at the start of a buffer.
+pub fn write_entry(buf: &mut [u8], stream: u16, entry: Entry) -> Writing
+    ensures { λ r. ⌜ (r, now (buf .exit)) ≡ recordWriting (Record.Entry stream «entry») [] (now (buf .entry)) ⌝ }
+{
+    if 2 <= stream {
+        return Writing::Refused(1);
+    }
+    if buf.len() < 22 {
+        return Writing::Refused(12);
+    }
+    put_head(buf, 20, ENTRY);
+    put16(buf, 4, stream);
+    put_two(buf, 6, entry.span.start, entry.span.end);
+    put_two(buf, 14, entry.key, entry.value);
+    Writing::Written(22)
+}
+
+// Writes a mark of a stream.
+pub fn write_mark(buf: &mut [u8], stream: u16, time: u32) -> Writing
+    ensures { λ r. ⌜ (r, now (buf .exit)) ≡ recordWriting (Record.Mark stream time) [] (now (buf .entry)) ⌝ }
+{
+    if 2 <= stream {
+        return Writing::Refused(1);
+    }
+    if buf.len() < 10 {
+        return Writing::Refused(12);
+    }
+    put_head(buf, 8, MARK);
+    put16(buf, 4, stream);
+    put32(buf, 6, time);
+    Writing::Written(10)
+}
+
+// Writes the close of a stream.
+pub fn write_close(buf: &mut [u8], stream: u16) -> Writing
+    ensures { λ r. ⌜ (r, now (buf .exit)) ≡ recordWriting (Record.Close stream) [] (now (buf .entry)) ⌝ }
+{
+    if 2 <= stream {
+        return Writing::Refused(1);
+    }
+    if buf.len() < 6 {
+        return Writing::Refused(12);
+    }
+    put_head(buf, 4, CLOSE);
+    put16(buf, 4, stream);
+    Writing::Written(6)
+}
+
+// Writes a note.
+pub fn write_note(buf: &mut [u8], text: &[u8]) -> Writing
+    ensures { λ r. ⌜ (r, now (buf .exit)) ≡ recordWriting (Record.Note (length (now (text .entry)))) (now (text .entry)) (now (buf .entry)) ⌝ }
+{
+    let size = text.len();
+    if 64 < size {
+        return Writing::Refused(10);
+    }
+    if buf.len() < 4 + size {
+        return Writing::Refused(12);
+    }
+    put_head(buf, (2 + size) as u16, NOTE);
+    put_text(buf, 4, text);
+    Writing::Written(4 + size)
+}
+
+// Writes a pair.
+pub fn write_pair(buf: &mut [u8], pair: Pair) -> Writing
+    ensures { λ r. ⌜ (r, now (buf .exit)) ≡ pairWriting «pair» (now (buf .entry)) ⌝ }
+{
+    if buf.len() < 36 {
+        return Writing::Refused(12);
+    }
+    put_head(buf, 34, PAIR);
+    put_two(buf, 4, pair.meeting.start, pair.meeting.end);
+    put_two(buf, 12, pair.a.ordinal, pair.b.ordinal);
+    put_two(buf, 20, pair.a.key, pair.b.key);
+    put_two(buf, 28, pair.a.value, pair.b.value);
+    Writing::Written(36)
 }
