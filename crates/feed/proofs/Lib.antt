@@ -3,3 +3,5 @@ pub mod Heads
 pub mod Fields
 pub mod Readings
 pub mod Writings
+pub mod Locality
+pub mod RoundTrip

@@ -52,6 +52,20 @@ value-append (x ∷ xs) ys =
     let e : 256 * (256 ^ length xs * value ys) ≡ 256 ^ suc (length xs) * value ys = rw (pow-suc 256 (length xs), mul-comm (256 ^ length xs) 256, mul-assoc) in
     omega arith
 
+pub bytes-take : (n : ℕ) (bs : List ℕ) → Bytes bs → Bytes (take n bs)
+bytes-take zero bs h = tt
+bytes-take (suc n) [] h = tt
+bytes-take (suc n) (b ∷ bs) h = (h .0, bytes-take n bs (h .1))
+
+pub bytes-drop : (n : ℕ) (bs : List ℕ) → Bytes bs → Bytes (drop n bs)
+bytes-drop zero bs h = h
+bytes-drop (suc n) [] h = tt
+bytes-drop (suc n) (b ∷ bs) h = bytes-drop n bs (h .1)
+
+-- the first bytes of some are written back as they were read
+pub bytes-value-take : (n : ℕ) (bs : List ℕ) → Bytes bs → n ≤ length bs → bytes n (value (take n bs)) ≡ take n bs
+bytes-value-take n bs h k = rw (length-take-le n bs k) at (bytes-value (take n bs) (bytes-take n bs h))
+
 -- a number read in two parts
 pub value-split : (m n : ℕ) (bs : List ℕ) → m ≤ length bs → value (take (m + n) bs) ≡ value (take m bs) + 256 ^ m * value (take n (drop m bs))
 value-split m n bs h = rw (take-add m n bs, value-append (take m bs) (take n (drop m bs)), length-take-le m bs h)

@@ -16,7 +16,7 @@ use Rattle.feed.specs.declared.PairReading.the-variants.{Found as FoundP
 use Rattle.feed.specs.declared.Reading.the-variants.{Found, Refused, End}
 use Rattle.feed.specs.Kind.{pair, kindsOf, fieldsIn}
 use Rattle.feed.specs.Record.{recordIn, pairOf, streamKnown}
-use Rattle.feed.specs.Reading.{firstOf, unless, headOf, foundAt, readingOf, reading, pairReading}
+use Rattle.feed.specs.Reading.{firstOf, unless, headOf, foundAt, readingOf, readingFrom, reading, pairReadingFrom, pairReading}
 use Rattle.feed.proofs.Heads.{Row, here, there, head-none, whole-elim, whole-row}
 
 -- the part of a feed from a place to its end is what is left there
@@ -25,35 +25,35 @@ rest-all s at = take-all (length s - at) (drop at s) (simp length-drop (omega ar
 
 module _ (s : List ℕ) (at : ℕ) where
   pub reading-past : length s ≤ at → reading s at ≡ End
-  unfolding reading
+  unfolding reading readingFrom
   reading-past h = rw (drop-of-length-le s h, head-none Input _ refl)
 
   pub reading-end : headOf Input (drop at s) ≡ noHead → reading s at ≡ End
-  unfolding reading
+  unfolding reading readingFrom
   reading-end h = rw h
 
   pub reading-refused : (number : ℕ) → headOf Input (drop at s) ≡ refusedHead number → reading s at ≡ Refused number at
-  unfolding reading
+  unfolding reading readingFrom
   reading-refused number h = rw h
 
   pub reading-whole : (kind size : ℕ) → headOf Input (drop at s) ≡ Whole kind size → reading s at ≡ foundAt at (recordIn kind size (drop at s)) (at + 2 + size)
-  unfolding reading
+  unfolding reading readingFrom
   reading-whole kind size h = rw h
 
   pub pair-past : length s ≤ at → pairReading s at ≡ noPair
-  unfolding pairReading
+  unfolding pairReading pairReadingFrom
   pair-past h = rw (drop-of-length-le s h, head-none Output _ refl)
 
   pub pair-end : headOf Output (drop at s) ≡ noHead → pairReading s at ≡ noPair
-  unfolding pairReading
+  unfolding pairReading pairReadingFrom
   pair-end h = rw h
 
   pub pair-refused : (number : ℕ) → headOf Output (drop at s) ≡ refusedHead number → pairReading s at ≡ refusedPair number at
-  unfolding pairReading
+  unfolding pairReading pairReadingFrom
   pair-refused number h = rw h
 
   pub pair-whole : (kind size : ℕ) → headOf Output (drop at s) ≡ Whole kind size → pairReading s at ≡ FoundPair (pairOf (fieldsIn pair (drop at s))) (at + 2 + size)
-  unfolding pairReading
+  unfolding pairReading pairReadingFrom
   pair-whole kind size h = rw h
 
 -- ---- what a record that was found tells
@@ -67,7 +67,7 @@ pub record FoundRecord (s : List ℕ) (at : ℕ) (found : Record) (next : ℕ) :
   pub stream : streamKnown found ≡ true
 
 pub found-elim : (s : List ℕ) (at : ℕ) {found : Record} {next : ℕ} → reading s at ≡ Found found next → FoundRecord s at found next
-unfolding reading foundAt
+unfolding reading readingFrom foundAt
 found-elim s at {found} {next} h = go (headOf Input (drop at s)) refl h
   where
     known : (kind size : ℕ) → headOf Input (drop at s) ≡ Whole kind size → (b : Bool) → streamKnown (recordIn kind size (drop at s)) ≡ b

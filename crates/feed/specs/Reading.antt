@@ -80,9 +80,12 @@ readingOf at bs (Whole kind size) = foundAt at (recordIn kind size bs) (at + 2 +
 readingOf at bs (refusedHead number) = Refused number at
 readingOf at bs noHead = End
 
--- a reading of an input feed at a place: what is left of the feed there decides
+-- a reading of an input feed at a place, by what is left of the feed there
+unfoldable pub readingFrom : ℕ → List ℕ → Reading
+readingFrom at bs = readingOf at bs (headOf Input bs)
+
 unfoldable pub reading : List ℕ → ℕ → Reading
-reading s at = readingOf at (drop at s) (headOf Input (drop at s))
+reading s at = readingFrom at (drop at s)
 
 -- a reading of an output feed
 abbrev pub pairReadingOf : ℕ → List ℕ → Head → PairReading
@@ -90,5 +93,8 @@ pairReadingOf at bs (Whole kind size) = FoundPair (pairOf (fieldsIn pair bs)) (a
 pairReadingOf at bs (refusedHead number) = refusedPair number at
 pairReadingOf at bs noHead = noPair
 
+unfoldable pub pairReadingFrom : ℕ → List ℕ → PairReading
+pairReadingFrom at bs = pairReadingOf at bs (headOf Output bs)
+
 unfoldable pub pairReading : List ℕ → ℕ → PairReading
-pairReading s at = pairReadingOf at (drop at s) (headOf Output (drop at s))
+pairReading s at = pairReadingFrom at (drop at s)
