@@ -4,4 +4,5 @@ pub mod Fields
 pub mod Readings
 pub mod Writings
 pub mod Locality
-pub mod RoundTrip
+pub mod WriteRead
+pub mod ReadWrite
