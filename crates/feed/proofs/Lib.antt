@@ -6,3 +6,4 @@ pub mod Writings
 pub mod Locality
 pub mod WriteRead
 pub mod ReadWrite
+pub mod Unique
