@@ -6,9 +6,9 @@ use mathlib.Core.List.{List, [], _∷_, _++_, append-assoc}
 use mathlib.Core.Path.{_≡_, refl, ap, _∙_}
 use lib.ListN.{length, take, drop, length-append, length-drop}
 use lib.Seq.{drop-drop, take-add, take-at, drop-at, take-take, take-nil}
-use Rattle.feed.specs.Number.{Bytes, value, bytes}
+use Rattle.feed.specs.Number.{value, bytes}
 use Rattle.feed.specs.Kind.{entry, mark, pair, packed, unpacked, fieldsIn}
-use Rattle.feed.proofs.Numbers.{bytes-length, value-bytes, bytes-drop, bytes-value-take}
+use Rattle.feed.proofs.Numbers.{Bytes, bytes-length, value-bytes, bytes-drop, bytes-value-take}
 
 -- the number of a width at a place
 abbrev pub at : ℕ → ℕ → List ℕ → ℕ

@@ -12,7 +12,8 @@ use Rattle.feed.specs.declared.Feed.the-variants.{Input, Output}
 use Rattle.feed.specs.declared.Head.the-variants.{Whole, Refused, End}
 use Rattle.feed.specs.declared.Lengths.the-variants.{Unknown, Within}
 use Rattle.feed.specs.Kind.{Kind, kindsOf, lengthsAmong, lengthsOf}
-use Rattle.feed.specs.Reading.{firstOf, unless, unknown, unfit, lengthIn, kindIn, outside, kindChecks, headChecks, headUnless, headOf}
+use Rattle.feed.specs.Check.{firstOf, unless}
+use Rattle.feed.specs.Reading.{unknown, unfit, lengthIn, kindIn, outside, kindChecks, headChecks, headUnless, headOf}
 
 -- ---- a length within limits
 

@@ -19,8 +19,9 @@ use Rattle.feed.specs.declared.Record.{Record}
 use Rattle.feed.specs.declared.Record.the-variants.{Note}
 use Rattle.feed.specs.Number.{value}
 use Rattle.feed.specs.Kind.{Kind, entry, mark, close, pair, unpacked, fieldsIn}
-use Rattle.feed.specs.Record.{entryOf, markOf, closeOf, pairOf, recordIn, streamKnown}
-use Rattle.feed.specs.Reading.{firstOf, unless, lengthIn, kindIn, outside, kindChecks, headUnless, headOf, foundAt, readingOf, readingFrom, reading, pairReadingOf, pairReadingFrom, pairReading}
+use Rattle.feed.specs.Record.{entryFrom, markFrom, closeFrom, pairFrom, recordIn, streamKnown}
+use Rattle.feed.specs.Check.{firstOf, unless}
+use Rattle.feed.specs.Reading.{lengthIn, kindIn, outside, kindChecks, headUnless, headOf, foundAt, readingOf, readingFrom, reading, pairReadingOf, pairReadingFrom, pairReading}
 use Rattle.feed.proofs.Fields.{total, drop-take, unpacked-take}
 use Rattle.feed.proofs.Heads.{inside-elim, head-outside, head-kind}
 
@@ -41,11 +42,11 @@ module _ (bs : List ℕ) where
   record-in-68 kind size = go (eqb kind 1) (eqb kind 2) (eqb kind 3)
     where
       go : (is-entry is-mark is-close : Bool)
-          → cond is-entry (entryOf (fieldsIn entry (take 68 bs))) (cond is-mark (markOf (fieldsIn mark (take 68 bs))) (cond is-close (closeOf (fieldsIn close (take 68 bs))) (Note (size - 2))))
-          ≡ cond is-entry (entryOf (fieldsIn entry bs)) (cond is-mark (markOf (fieldsIn mark bs)) (cond is-close (closeOf (fieldsIn close bs)) (Note (size - 2))))
-      go true is-mark is-close = ap entryOf (fields-in-68 entry (omega arith))
-      go false true is-close = ap markOf (fields-in-68 mark (omega arith))
-      go false false true = ap closeOf (fields-in-68 close (omega arith))
+          → cond is-entry (entryFrom (fieldsIn entry (take 68 bs))) (cond is-mark (markFrom (fieldsIn mark (take 68 bs))) (cond is-close (closeFrom (fieldsIn close (take 68 bs))) (Note (size - 2))))
+          ≡ cond is-entry (entryFrom (fieldsIn entry bs)) (cond is-mark (markFrom (fieldsIn mark bs)) (cond is-close (closeFrom (fieldsIn close bs)) (Note (size - 2))))
+      go true is-mark is-close = ap entryFrom (fields-in-68 entry (omega arith))
+      go false true is-close = ap markFrom (fields-in-68 mark (omega arith))
+      go false false true = ap closeFrom (fields-in-68 close (omega arith))
       go false false false = refl
 
   module _ (feed : Feed) where
@@ -85,7 +86,7 @@ unfolding pairReading pairReadingFrom
 pair-local s at = sym (ap (pairReadingOf at (take 68 (drop at s))) (head-in-68 (drop at s) Output) ∙ go (headOf Output (drop at s)))
   where
     go : (head : Head) → pairReadingOf at (take 68 (drop at s)) head ≡ pairReadingOf at (drop at s) head
-    go (Whole kind size) = ap (λ (numbers : List ℕ). FoundPair (pairOf numbers) (at + 2 + size)) (fields-in-68 (drop at s) pair (omega arith))
+    go (Whole kind size) = ap (λ (numbers : List ℕ). FoundPair (pairFrom numbers) (at + 2 + size)) (fields-in-68 (drop at s) pair (omega arith))
     go (refusedHead number) = refl
     go noHead = refl
 

@@ -1,15 +1,19 @@
 -- Laws of little-endian numbers, over any width.
 use Prim.Native.Nat.{ℕ, zero, suc, _+_, _*_, _/_, _%_, _^_, _≤_, _<_}
-use native.Mathlib.Nat.{pow-zero, pow-suc, mul-add, mul-assoc, mul-comm, one-mul, zero-add}
+use native.Mathlib.Nat.{pow-zero, pow-suc, mul-assoc, mul-comm, one-mul, zero-add}
 use native.Mathlib.Numerals.{add-one}
 use native.Mathlib.Omega.{arith}
 use mathlib.Core.List.{List, [], _∷_, _++_, append-assoc}
-use mathlib.Core.Path.{_≡_, refl, sym, ap, _∙_}
+use mathlib.Core.Path.{_≡_, refl, ap, _∙_}
 use lib.ListN.{length, take, drop, getD, length-append, length-take, length-drop}
 use lib.Seq.{take-at, drop-at, drop-drop, drop-cons, take-add, length-take-le}
-use Rattle.feed.specs.Number.{Bytes, value, bytes, put}
+use Rattle.lists.proofs.All.{All}
+use Rattle.feed.specs.Number.{value, bytes, put}
 
 -- ---- a number and its bytes
+
+abbrev pub Bytes : List ℕ → Type 0
+Bytes bs = All (λ (b : ℕ). b < 256) bs
 
 pub bytes-length : (n x : ℕ) → length (bytes n x) ≡ n
 bytes-length zero x = refl

@@ -16,17 +16,21 @@ use Rattle.feed.specs.declared.Record.{Record}
 use Rattle.feed.specs.declared.Record.the-variants.{Note}
 use Rattle.feed.specs.declared.Writing.{Writing}
 use Rattle.feed.specs.declared.Writing.the-variants.{Written}
-use Rattle.feed.specs.Number.{Bytes, bytes, put}
+use Rattle.feed.specs.Number.{bytes, put}
 use Rattle.feed.specs.Kind.{Kind, entry, mark, close, pair, kindsOf, framed, packed, fieldsIn}
-use Rattle.feed.specs.Record.{pairOf, recordIn, recordBytes, pairBytes}
+use Rattle.feed.specs.Record.{pairFrom, recordIn, recordBytes, pairBytes}
 use Rattle.feed.specs.Reading.{lengthIn, kindIn, headOf, reading, pairReadingOf, pairReadingFrom, pairReading}
-use Rattle.feed.specs.Text.{textOf, textIn, textAt, stretch, textBytes}
+use Rattle.feed.specs.Text.{textOf, textIn, textAt, stretch}
 use Rattle.feed.specs.Writing.{recordWriting, pairWriting}
-use Rattle.feed.proofs.Numbers.{bytes-drop, bytes-value-take, put-first}
+use Rattle.feed.proofs.Numbers.{Bytes, bytes-drop, bytes-value-take, put-first}
 use Rattle.feed.proofs.Fields.{total, packed-unpacked}
 use Rattle.feed.proofs.Heads.{Row, here, there, whole-elim, whole-row, whole-pair}
 use Rattle.feed.proofs.Readings.{found-elim}
 use Rattle.feed.proofs.Writings.{record-written, pair-written}
+
+-- the text at a place of a feed: nothing, unless a note stands there
+abbrev pub textBytes : List ℕ → ℕ → List ℕ
+textBytes s at = stretch s (textAt s at)
 
 -- framed bytes are those that were read
 framed-back : (kind size : ℕ) (bs : List ℕ) → Bytes bs → kind ≡ kindIn bs → size ≡ lengthIn bs → 2 ≤ size → 2 + size ≤ length bs → framed kind (take (size - 2) (drop 4 bs)) ≡ take (2 + size) bs
@@ -108,7 +112,7 @@ record PairFound (s : List ℕ) (at : ℕ) (p : Pair) (next : ℕ) : Type 0 wher
   kind : ℕ
   size : ℕ
   head : headOf Output (drop at s) ≡ Whole kind size
-  found-in : p ≡ pairOf (fieldsIn pair (drop at s))
+  found-in : p ≡ pairFrom (fieldsIn pair (drop at s))
   next-at : next ≡ at + 2 + size
 
 pair-elim : (s : List ℕ) (at : ℕ) {p : Pair} {next : ℕ} → pairReading s at ≡ FoundPair p next → PairFound s at p next
@@ -117,7 +121,7 @@ pair-elim s at {p} {next} h = go (headOf Output (drop at s)) refl h
   where
     go : (head : Head) → headOf Output (drop at s) ≡ head → pairReadingOf at (drop at s) head ≡ FoundPair p next → PairFound s at p next
     go (Whole kind size) w e =
-        let same : pairOf (fieldsIn pair (drop at s)) ≡ p = cc in
+        let same : pairFrom (fieldsIn pair (drop at s)) ≡ p = cc in
         let after : at + 2 + size ≡ next = cc in
         record { kind = kind; size = size; head = w; found-in = sym same; next-at = sym after }
     go (refusedHead number) w e = absurd (let z : _≡_ {A = ℕ} 0 1 = cc in omega arith)

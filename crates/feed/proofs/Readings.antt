@@ -1,6 +1,5 @@
 -- Laws of readings: the head of what is left at the place decides.
 use Prim.Native.Nat.{ℕ, _+_, _-_, _≤_}
-use native.Mathlib.Nat.{le-refl}
 use native.Mathlib.Omega.{arith}
 use mathlib.Core.Bool.{Bool, true, false, not}
 use mathlib.Core.List.{List, [], _∷_}
@@ -15,8 +14,9 @@ use Rattle.feed.specs.declared.Record.the-variants.{Note}
 use Rattle.feed.specs.declared.PairReading.the-variants.{Found as FoundPair, Refused as refusedPair, End as noPair}
 use Rattle.feed.specs.declared.Reading.the-variants.{Found, Refused, End}
 use Rattle.feed.specs.Kind.{pair, kindsOf, fieldsIn}
-use Rattle.feed.specs.Record.{recordIn, pairOf, streamKnown}
-use Rattle.feed.specs.Reading.{firstOf, unless, headOf, foundAt, readingOf, readingFrom, reading, pairReadingFrom, pairReading}
+use Rattle.feed.specs.Record.{recordIn, pairFrom, streamKnown}
+use Rattle.feed.specs.Check.{firstOf, unless}
+use Rattle.feed.specs.Reading.{headOf, foundAt, readingOf, readingFrom, reading, pairReadingFrom, pairReading}
 use Rattle.feed.proofs.Heads.{Row, here, there, head-none, whole-elim, whole-row}
 
 -- the part of a feed from a place to its end is what is left there
@@ -52,7 +52,7 @@ module _ (s : List ℕ) (at : ℕ) where
   unfolding pairReading pairReadingFrom
   pair-refused number h = rw h
 
-  pub pair-whole : (kind size : ℕ) → headOf Output (drop at s) ≡ Whole kind size → pairReading s at ≡ FoundPair (pairOf (fieldsIn pair (drop at s))) (at + 2 + size)
+  pub pair-whole : (kind size : ℕ) → headOf Output (drop at s) ≡ Whole kind size → pairReading s at ≡ FoundPair (pairFrom (fieldsIn pair (drop at s))) (at + 2 + size)
   unfolding pairReading pairReadingFrom
   pair-whole kind size h = rw h
 

@@ -1,6 +1,6 @@
 -- The contract of each public function allows one result; that of a writing also one content of the buffer. Of the text of a note it allows one place and one content.
 use mathlib.Core.List.{List}
-use mathlib.Core.Path.{_≡_, sym, _∙_}
+use mathlib.Core.Path.{sym, _∙_}
 use Prim.Native.Nat.{ℕ}
 use denote.Ref.{now}
 use Rattle.unique.specs.Unique.{OneResult, OneOutcome}

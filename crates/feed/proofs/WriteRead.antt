@@ -20,10 +20,10 @@ use Rattle.feed.specs.declared.Record.{Record}
 use Rattle.feed.specs.declared.Record.the-variants.{Entry as entryRecord, Mark, Close, Note}
 use Rattle.feed.specs.declared.Writing.{Writing}
 use Rattle.feed.specs.declared.Writing.the-variants.{Written, Refused}
-use Rattle.feed.specs.Number.{bytes}
-use Rattle.feed.specs.Kind.{entry, mark, close, note, pair, lengthsOf, framed, packed}
-use Rattle.feed.specs.Record.{entryOf, markOf, closeOf, entryNumbers, markNumbers, closeNumbers, pairNumbers, pairOf, recordIn, recordBytes, pairBytes, streamKnown}
-use Rattle.feed.specs.Reading.{firstOf, unless, lengthIn, kindIn, outside, kindChecks, headUnless, headOf, foundAt, readingFrom, reading, pairReadingOf, pairReadingFrom, pairReading}
+use Rattle.feed.specs.Kind.{entry, mark, close, pair, lengthsOf, framed, packed}
+use Rattle.feed.specs.Record.{entryFrom, markFrom, closeFrom, entryNumbers, markNumbers, closeNumbers, pairNumbers, pairFrom, recordIn, recordBytes, pairBytes, streamKnown}
+use Rattle.feed.specs.Check.{firstOf, unless}
+use Rattle.feed.specs.Reading.{lengthIn, kindIn, outside, kindChecks, headUnless, headOf, foundAt, readingFrom, reading, pairReadingOf, pairReadingFrom, pairReading}
 use Rattle.feed.specs.Writing.{writing, recordWriting, pairWriting}
 use Rattle.feed.proofs.Numbers.{value-bytes}
 use Rattle.feed.proofs.Fields.{Room, unpacked-packed}
@@ -63,15 +63,15 @@ unfolding recordBytes recordIn
 record-reads (entryRecord stream e) text rest at fit known short =
     let fields = packed (entry .fields) (entryNumbers stream e) in
     found-framed 1 fields rest (entryRecord stream e) at (head-framed Input 1 20 20 fields rest lengths-entry (omega arith) (omega arith) (omega arith) (omega arith))
-    (ap entryOf (unpacked-packed (entry .fields) (entryNumbers stream e) rest fit)) known
+    (ap entryFrom (unpacked-packed (entry .fields) (entryNumbers stream e) rest fit)) known
 record-reads (Mark stream time) text rest at fit known short =
     let fields = packed (mark .fields) (markNumbers stream time) in
     found-framed 2 fields rest (Mark stream time) at (head-framed Input 2 8 8 fields rest lengths-mark (omega arith) (omega arith) (omega arith) (omega arith))
-    (ap markOf (unpacked-packed (mark .fields) (markNumbers stream time) rest fit)) known
+    (ap markFrom (unpacked-packed (mark .fields) (markNumbers stream time) rest fit)) known
 record-reads (Close stream) text rest at fit known short =
     let fields = packed (close .fields) (closeNumbers stream) in
     found-framed 3 fields rest (Close stream) at (head-framed Input 3 4 4 fields rest lengths-close (omega arith) (omega arith) (omega arith) (omega arith))
-    (ap closeOf (unpacked-packed (close .fields) (closeNumbers stream) rest fit)) known
+    (ap closeFrom (unpacked-packed (close .fields) (closeNumbers stream) rest fit)) known
 record-reads (Note size) text rest at fit known short =
     let same : 2 + length text - 2 ≡ size = omega arith in
     found-framed 4 text rest (Note size) at (head-framed Input 4 2 66 text rest lengths-note (omega arith) (omega arith) (omega arith) (omega arith)) (ap Note same) known
@@ -82,7 +82,7 @@ pair-reads p rest at fit =
     let fields = packed (pair .fields) (pairNumbers p) in
     let next : at + 2 + 34 ≡ at + 36 = omega arith in
     ap (pairReadingOf at (pairBytes p ++ rest)) (head-framed Output 257 34 34 fields rest lengths-pair (omega arith) (omega arith) (omega arith) (omega arith))
-    ∙ ap (λ (numbers : List ℕ). FoundPair (pairOf numbers) (at + 2 + 34)) (unpacked-packed (pair .fields) (pairNumbers p) rest fit)
+    ∙ ap (λ (numbers : List ℕ). FoundPair (pairFrom numbers) (at + 2 + 34)) (unpacked-packed (pair .fields) (pairNumbers p) rest fit)
     ∙ ap (FoundPair p) next
 
 -- wherever they stand in a feed

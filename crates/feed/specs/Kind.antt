@@ -1,9 +1,9 @@
 -- The table of kinds: for each its number, its shortest and its longest length, and its fields.
 use Prim.Native.Nat.{ℕ, _+_}
-use mathlib.Core.Bool.{Bool, true, false, cond, _||_}
+use mathlib.Core.Bool.{cond}
 use mathlib.Core.List.{List, [], _∷_, _++_}
 use lib.ListN.{length, take, drop}
-use lib.Dec.{ltb, eqb}
+use lib.Dec.{eqb}
 use Rattle.feed.specs.declared.Feed.{Feed}
 use Rattle.feed.specs.declared.Feed.the-variants.{Input, Output}
 use Rattle.feed.specs.declared.Lengths.{Lengths}

@@ -1,12 +1,7 @@
 -- House layout, little-endian. A number of a width is so many bytes, the least first.
-use Prim.Native.Nat.{ℕ, zero, suc, _+_, _*_, _/_, _%_, _<_}
+use Prim.Native.Nat.{ℕ, zero, suc, _+_, _*_, _/_, _%_}
 use mathlib.Core.List.{List, [], _∷_, _++_}
 use lib.ListN.{length, take, drop}
-
--- a list of bytes
-abbrev pub Bytes : List ℕ → Type 0
-Bytes [] = Unit {0}
-Bytes (b ∷ bs) = (b < 256) × Bytes bs
 
 -- the number in some bytes
 abbrev pub value : List ℕ → ℕ

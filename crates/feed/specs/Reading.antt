@@ -16,17 +16,9 @@ use Rattle.feed.specs.declared.PairReading.{PairReading}
 use Rattle.feed.specs.declared.PairReading.the-variants.{Found as FoundPair, Refused as refusedPair, End as noPair}
 use Rattle.feed.specs.declared.Record.{Record}
 use Rattle.feed.specs.Number.{value}
+use Rattle.feed.specs.Check.{firstOf, unless}
 use Rattle.feed.specs.Kind.{pair, lengthsOf, fieldsIn}
-use Rattle.feed.specs.Record.{recordIn, pairOf, streamKnown}
-
--- the number of the first check that applies, 0 where none does
-abbrev pub firstOf : List (Bool × ℕ) → ℕ
-firstOf [] = 0
-firstOf (check ∷ checks) = cond (check .0) (check .1) (firstOf checks)
-
--- the answer, or a refusal with its number
-abbrev pub unless : {A : Type 0} → ℕ → (ℕ → A) → A → A
-unless number refused answer = cond (eqb number 0) answer (refused number)
+use Rattle.feed.specs.Record.{recordIn, pairFrom, streamKnown}
 
 -- the length and the kind that stand at the front of some bytes
 abbrev pub lengthIn : List ℕ → ℕ
@@ -39,6 +31,7 @@ kindIn bs = value (take 2 (drop 2 bs))
 unfoldable pub outside : ℕ → ℕ → ℕ → Bool
 outside shortest longest n = ltb n shortest || ltb longest n
 
+-- the feed does not know the kind, or its records have other lengths; the second is only asked of a kind that it knows
 abbrev pub unknown : Lengths → Bool
 unknown Unknown = true
 unknown (Within shortest longest) = false
@@ -74,7 +67,7 @@ headOf feed bs = cond (eqb (length bs) 0) noHead (headUnless (headChecks feed bs
 unfoldable pub foundAt : ℕ → Record → ℕ → Reading
 foundAt at found next = unless (firstOf ((not (streamKnown found), 1) ∷ [])) (λ (number : ℕ). Refused number at) (Found found next)
 
--- the answer to a head at a place, with the bytes that are left there
+-- the answer at a place to the head of the bytes that are left there
 abbrev pub readingOf : ℕ → List ℕ → Head → Reading
 readingOf at bs (Whole kind size) = foundAt at (recordIn kind size bs) (at + 2 + size)
 readingOf at bs (refusedHead number) = Refused number at
@@ -89,7 +82,7 @@ reading s at = readingFrom at (drop at s)
 
 -- a reading of an output feed
 abbrev pub pairReadingOf : ℕ → List ℕ → Head → PairReading
-pairReadingOf at bs (Whole kind size) = FoundPair (pairOf (fieldsIn pair bs)) (at + 2 + size)
+pairReadingOf at bs (Whole kind size) = FoundPair (pairFrom (fieldsIn pair bs)) (at + 2 + size)
 pairReadingOf at bs (refusedHead number) = refusedPair number at
 pairReadingOf at bs noHead = noPair
 

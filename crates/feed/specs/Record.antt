@@ -2,7 +2,7 @@
 use Prim.Native.Nat.{ℕ, _-_}
 use mathlib.Core.Bool.{Bool, true, cond}
 use mathlib.Core.List.{List, [], _∷_}
-use lib.ListN.{length, getD}
+use lib.ListN.{getD}
 use lib.Dec.{ltb, eqb}
 use Rattle.pairing.specs.declared.Entry.{Entry}
 use Rattle.pairing.specs.declared.Pair.{Pair}
@@ -14,8 +14,8 @@ use Rattle.feed.specs.Kind.{entry, mark, close, note, pair, framed, pack
 abbrev pub entryNumbers : ℕ → Entry → List ℕ
 entryNumbers stream e = stream ∷ e .span .start ∷ e .span .end ∷ e .key ∷ e .value ∷ []
 
-abbrev pub entryOf : List ℕ → Record
-entryOf numbers =
+abbrev pub entryFrom : List ℕ → Record
+entryFrom numbers =
     entryRecord (getD numbers 0 0)
     (record { span = record { start = getD numbers 1 0; end = getD numbers 2 0 }; key = getD numbers 3 0; value = getD numbers 4 0 })
 
@@ -23,23 +23,23 @@ entryOf numbers =
 abbrev pub markNumbers : ℕ → ℕ → List ℕ
 markNumbers stream time = stream ∷ time ∷ []
 
-abbrev pub markOf : List ℕ → Record
-markOf numbers = Mark (getD numbers 0 0) (getD numbers 1 0)
+abbrev pub markFrom : List ℕ → Record
+markFrom numbers = Mark (getD numbers 0 0) (getD numbers 1 0)
 
 -- stream
 abbrev pub closeNumbers : ℕ → List ℕ
 closeNumbers stream = stream ∷ []
 
-abbrev pub closeOf : List ℕ → Record
-closeOf numbers = Close (getD numbers 0 0)
+abbrev pub closeFrom : List ℕ → Record
+closeFrom numbers = Close (getD numbers 0 0)
 
 -- start, end, A ordinal, B ordinal, A key, B key, A value, B value
 abbrev pub pairNumbers : Pair → List ℕ
 pairNumbers p =
     p .meeting .start ∷ p .meeting .end ∷ p .a .ordinal ∷ p .b .ordinal ∷ p .a .key ∷ p .b .key ∷ p .a .value ∷ p .b .value ∷ []
 
-abbrev pub pairOf : List ℕ → Pair
-pairOf numbers =
+abbrev pub pairFrom : List ℕ → Pair
+pairFrom numbers =
     record {
       meeting = record { start = getD numbers 0 0; end = getD numbers 1 0 };
       a = record { ordinal = getD numbers 2 0; key = getD numbers 4 0; value = getD numbers 6 0 };
@@ -49,9 +49,9 @@ pairOf numbers =
 -- the record of a kind and a length that stands first in some bytes
 unfoldable pub recordIn : ℕ → ℕ → List ℕ → Record
 recordIn kind size bs =
-    cond (eqb kind (entry .number)) (entryOf (fieldsIn entry bs))
-    (cond (eqb kind (mark .number)) (markOf (fieldsIn mark bs))
-    (cond (eqb kind (close .number)) (closeOf (fieldsIn close bs))
+    cond (eqb kind (entry .number)) (entryFrom (fieldsIn entry bs))
+    (cond (eqb kind (mark .number)) (markFrom (fieldsIn mark bs))
+    (cond (eqb kind (close .number)) (closeFrom (fieldsIn close bs))
     (Note (size - 2))))
 
 -- the bytes of a record, a note's with its text

@@ -26,12 +26,9 @@ textIn at End = (0, 0)
 unfoldable pub textAt : List ℕ → ℕ → ℕ × ℕ
 textAt s at = textIn at (reading s at)
 
--- the bytes of a stretch, and those of the text
+-- the bytes of a stretch
 abbrev pub stretch : List ℕ → ℕ × ℕ → List ℕ
 stretch s part = take (part .1) (drop (part .0) s)
-
-abbrev pub textBytes : List ℕ → ℕ → List ℕ
-textBytes s at = stretch s (textAt s at)
 
 -- part is that very stretch of s: it points to its place in s, and holds its bytes
 abbrev pub IsStretch : RefT (List ℕ) → ℕ × ℕ → RefT (List ℕ) → Type 0

@@ -8,8 +8,8 @@ use Rattle.pairing.specs.declared.Pair.{Pair}
 use Rattle.feed.specs.declared.Record.{Record}
 use Rattle.feed.specs.declared.Writing.{Writing}
 use Rattle.feed.specs.declared.Writing.the-variants.{Written, Refused}
+use Rattle.feed.specs.Check.{firstOf, unless}
 use Rattle.feed.specs.Record.{recordBytes, pairBytes, streamKnown}
-use Rattle.feed.specs.Reading.{firstOf, unless}
 
 -- what is answered and what the buffer then holds, for bytes that own checks may refuse. The last check is a buffer shorter than the record (12).
 unfoldable pub writing : List (Bool × ℕ) → List ℕ → List ℕ → Writing × List ℕ

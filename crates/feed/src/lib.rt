@@ -9,20 +9,42 @@ ghost use Prim.Native.Nat.{_+_, _≤_};
 ghost use lib.ListN.{length, take, drop};
 ghost use Rattle.feed.specs.Number.{value, bytes, put};
 ghost use Rattle.feed.specs.Kind.{entry, mark, close, pair, lengthsOf, fieldsIn};
-ghost use Rattle.feed.specs.Record.{entryOf, markOf, closeOf, pairOf, recordIn, streamKnown};
+ghost use Rattle.feed.specs.Record.{entryFrom, markFrom, closeFrom, pairFrom, recordIn, streamKnown};
 ghost use Rattle.feed.specs.Text.{textAt, IsStretch};
 ghost use Rattle.feed.specs.Writing.{recordWriting, pairWriting};
 ghost use Rattle.feed.specs.Reading.{outside, kindChecks, headUnless, headOf, foundAt, reading, pairReading};
 
+// The table of kinds: the number of each, and the length of its records, which counts all that follows it.
 const ENTRY: u16 = 1;
+
+const ENTRY_LENGTH: u16 = 20;
 
 const MARK: u16 = 2;
 
+const MARK_LENGTH: u16 = 8;
+
 const CLOSE: u16 = 3;
+
+const CLOSE_LENGTH: u16 = 4;
 
 const NOTE: u16 = 4;
 
+const NOTE_SHORTEST: u16 = 2;
+
+const NOTE_LONGEST: u16 = 66;
+
 const PAIR: u16 = 257;
+
+const PAIR_LENGTH: u16 = 34;
+
+// How many bytes a whole record takes, the two length bytes included.
+const ENTRY_WHOLE: usize = 2 + ENTRY_LENGTH as usize;
+
+const MARK_WHOLE: usize = 2 + MARK_LENGTH as usize;
+
+const CLOSE_WHOLE: usize = 2 + CLOSE_LENGTH as usize;
+
+const PAIR_WHOLE: usize = 2 + PAIR_LENGTH as usize;
 
 // A record of an input feed. A number before another is its stream.
 pub enum Record {
@@ -59,19 +81,19 @@ pub enum Writing {
 }
 
 // The two kinds of feed, which know different kinds of record.
-pub enum Feed {
+enum Feed {
     Input,
     Output,
 }
 
 // The lengths that records of a kind have, if the feed knows it.
-pub enum Lengths {
+enum Lengths {
     Unknown,
     Within(u16, u16),
 }
 
 // What stands first in the rest of a feed.
-pub enum Head {
+enum Head {
     // A whole record: its kind and its length.
     Whole(u16, u16),
     Refused(u32),
@@ -114,36 +136,6 @@ fn put32(buf: &mut [u8], at: usize, x: u32)
     put16(buf, at + 2, (x / 65536) as u16);
 }
 
-// Two numbers of four bytes, one after the other.
-fn put_two(buf: &mut [u8], at: usize, x: u32, y: u32)
-    requires { ⌜ at + 8 ≤ length (now buf) ⌝ }
-    ensures { λ _. ⌜ now (buf .exit) ≡ put at (bytes 4 x ++ bytes 4 y) (now (buf .entry)) ⌝ }
-{
-    put32(buf, at, x);
-    put32(buf, at + 4, y);
-}
-
-// Some text into a buffer from a place on.
-fn put_text(buf: &mut [u8], at: usize, text: &[u8])
-    requires { ⌜ at + length (now text) ≤ length (now buf) ⌝ }
-    ensures { λ _. ⌜ now (buf .exit) ≡ put at (now (text .entry)) (now (buf .entry)) ⌝ }
-{
-    let mut i = 0;
-    while i < text.len() {
-        buf[at + i] = text[i];
-        i += 1;
-    }
-}
-
-// The length and the kind of a record, at the buffer's start.
-fn put_head(buf: &mut [u8], size: u16, kind: u16)
-    requires { ⌜ 4 ≤ length (now buf) ⌝ }
-    ensures { λ _. ⌜ now (buf .exit) ≡ put 0 (bytes 2 size ++ bytes 2 kind) (now (buf .entry)) ⌝ }
-{
-    put16(buf, 0, size);
-    put16(buf, 2, kind);
-}
-
 // Is a length below the shortest or above the longest?
 fn outside(size: u16, shortest: u16, longest: u16) -> bool
     ensures { λ r. ⌜ r ≡ outside shortest longest size ⌝ }
@@ -158,14 +150,14 @@ impl Feed {
     {
         match self {
             Feed::Input => match kind {
-                ENTRY => Lengths::Within(20, 20),
-                MARK => Lengths::Within(8, 8),
-                CLOSE => Lengths::Within(4, 4),
-                NOTE => Lengths::Within(2, 66),
+                ENTRY => Lengths::Within(ENTRY_LENGTH, ENTRY_LENGTH),
+                MARK => Lengths::Within(MARK_LENGTH, MARK_LENGTH),
+                CLOSE => Lengths::Within(CLOSE_LENGTH, CLOSE_LENGTH),
+                NOTE => Lengths::Within(NOTE_SHORTEST, NOTE_LONGEST),
                 _ => Lengths::Unknown,
             },
             Feed::Output => match kind {
-                PAIR => Lengths::Within(34, 34),
+                PAIR => Lengths::Within(PAIR_LENGTH, PAIR_LENGTH),
                 _ => Lengths::Unknown,
             },
         }
@@ -223,8 +215,8 @@ impl Record {
 
 // The entry that stands first in s.
 fn entry_in(s: &[u8]) -> Record
-    requires { ⌜ 22 ≤ length (now s) ⌝ }
-    ensures { λ r. ⌜ r ≡ entryOf (fieldsIn entry (now (s .entry))) ⌝ }
+    requires { ⌜ 2 + entry .longest ≤ length (now s) ⌝ }
+    ensures { λ r. ⌜ r ≡ entryFrom (fieldsIn entry (now (s .entry))) ⌝ }
 {
     let stream = get16(s, 4);
     let start = get32(s, 6);
@@ -237,8 +229,8 @@ fn entry_in(s: &[u8]) -> Record
 
 // The mark that stands first in s.
 fn mark_in(s: &[u8]) -> Record
-    requires { ⌜ 10 ≤ length (now s) ⌝ }
-    ensures { λ r. ⌜ r ≡ markOf (fieldsIn mark (now (s .entry))) ⌝ }
+    requires { ⌜ 2 + mark .longest ≤ length (now s) ⌝ }
+    ensures { λ r. ⌜ r ≡ markFrom (fieldsIn mark (now (s .entry))) ⌝ }
 {
     let stream = get16(s, 4);
     let time = get32(s, 6);
@@ -247,8 +239,8 @@ fn mark_in(s: &[u8]) -> Record
 
 // The close that stands first in s.
 fn close_in(s: &[u8]) -> Record
-    requires { ⌜ 6 ≤ length (now s) ⌝ }
-    ensures { λ r. ⌜ r ≡ closeOf (fieldsIn close (now (s .entry))) ⌝ }
+    requires { ⌜ 2 + close .longest ≤ length (now s) ⌝ }
+    ensures { λ r. ⌜ r ≡ closeFrom (fieldsIn close (now (s .entry))) ⌝ }
 {
     let stream = get16(s, 4);
     Record::Close(stream)
@@ -256,8 +248,8 @@ fn close_in(s: &[u8]) -> Record
 
 // The pair that stands first in s.
 fn pair_in(s: &[u8]) -> Pair
-    requires { ⌜ 36 ≤ length (now s) ⌝ }
-    ensures { λ r. ⌜ r ≡ pairOf (fieldsIn pair (now (s .entry))) ⌝ }
+    requires { ⌜ 2 + pair .longest ≤ length (now s) ⌝ }
+    ensures { λ r. ⌜ r ≡ pairFrom (fieldsIn pair (now (s .entry))) ⌝ }
 {
     let start = get32(s, 4);
     let end = get32(s, 8);
@@ -355,21 +347,51 @@ pub fn text(s: &[u8], at: usize) -> &[u8]
     &s[from..from + size]
 }
 
-// Writes an entry of a stream at the start of a buffer.
+// Two numbers of four bytes, one after the other.
+fn put_two(buf: &mut [u8], at: usize, x: u32, y: u32)
+    requires { ⌜ at + 8 ≤ length (now buf) ⌝ }
+    ensures { λ _. ⌜ now (buf .exit) ≡ put at (bytes 4 x ++ bytes 4 y) (now (buf .entry)) ⌝ }
+{
+    put32(buf, at, x);
+    put32(buf, at + 4, y);
+}
+
+// Some text into a buffer from a place on.
+fn put_text(buf: &mut [u8], at: usize, text: &[u8])
+    requires { ⌜ at + length (now text) ≤ length (now buf) ⌝ }
+    ensures { λ _. ⌜ now (buf .exit) ≡ put at (now (text .entry)) (now (buf .entry)) ⌝ }
+{
+    let mut i = 0;
+    while i < text.len() {
+        buf[at + i] = text[i];
+        i += 1;
+    }
+}
+
+// The length and the kind of a record, at the buffer's start.
+fn put_head(buf: &mut [u8], size: u16, kind: u16)
+    requires { ⌜ 4 ≤ length (now buf) ⌝ }
+    ensures { λ _. ⌜ now (buf .exit) ≡ put 0 (bytes 2 size ++ bytes 2 kind) (now (buf .entry)) ⌝ }
+{
+    put16(buf, 0, size);
+    put16(buf, 2, kind);
+}
+
+// Writes an entry of a stream at the start of a lent buffer.
 pub fn write_entry(buf: &mut [u8], stream: u16, entry: Entry) -> Writing
     ensures { λ r. ⌜ (r, now (buf .exit)) ≡ recordWriting (Record.Entry stream «entry») [] (now (buf .entry)) ⌝ }
 {
     if 2 <= stream {
         return Writing::Refused(1);
     }
-    if buf.len() < 22 {
+    if buf.len() < ENTRY_WHOLE {
         return Writing::Refused(12);
     }
-    put_head(buf, 20, ENTRY);
+    put_head(buf, ENTRY_LENGTH, ENTRY);
     put16(buf, 4, stream);
     put_two(buf, 6, entry.span.start, entry.span.end);
     put_two(buf, 14, entry.key, entry.value);
-    Writing::Written(22)
+    Writing::Written(ENTRY_WHOLE)
 }
 
 // Writes a mark of a stream.
@@ -379,13 +401,13 @@ pub fn write_mark(buf: &mut [u8], stream: u16, time: u32) -> Writing
     if 2 <= stream {
         return Writing::Refused(1);
     }
-    if buf.len() < 10 {
+    if buf.len() < MARK_WHOLE {
         return Writing::Refused(12);
     }
-    put_head(buf, 8, MARK);
+    put_head(buf, MARK_LENGTH, MARK);
     put16(buf, 4, stream);
     put32(buf, 6, time);
-    Writing::Written(10)
+    Writing::Written(MARK_WHOLE)
 }
 
 // Writes the close of a stream.
@@ -395,12 +417,12 @@ pub fn write_close(buf: &mut [u8], stream: u16) -> Writing
     if 2 <= stream {
         return Writing::Refused(1);
     }
-    if buf.len() < 6 {
+    if buf.len() < CLOSE_WHOLE {
         return Writing::Refused(12);
     }
-    put_head(buf, 4, CLOSE);
+    put_head(buf, CLOSE_LENGTH, CLOSE);
     put16(buf, 4, stream);
-    Writing::Written(6)
+    Writing::Written(CLOSE_WHOLE)
 }
 
 // Writes a note.
@@ -423,13 +445,13 @@ pub fn write_note(buf: &mut [u8], text: &[u8]) -> Writing
 pub fn write_pair(buf: &mut [u8], pair: Pair) -> Writing
     ensures { λ r. ⌜ (r, now (buf .exit)) ≡ pairWriting «pair» (now (buf .entry)) ⌝ }
 {
-    if buf.len() < 36 {
+    if buf.len() < PAIR_WHOLE {
         return Writing::Refused(12);
     }
-    put_head(buf, 34, PAIR);
+    put_head(buf, PAIR_LENGTH, PAIR);
     put_two(buf, 4, pair.meeting.start, pair.meeting.end);
     put_two(buf, 12, pair.a.ordinal, pair.b.ordinal);
     put_two(buf, 20, pair.a.key, pair.b.key);
     put_two(buf, 28, pair.a.value, pair.b.value);
-    Writing::Written(36)
+    Writing::Written(PAIR_WHOLE)
 }

@@ -2,7 +2,7 @@
 use borrow.Author.Needs.{needs}
 use mathlib.Core.Path.{sym, ap}
 use denote.Ref.{now}
-use Rattle.feed.specs.Record.{entryOf}
+use Rattle.feed.specs.Record.{entryFrom}
 use Rattle.feed.proofs.Fields.{entry-places}
 use Rattle.feed.proofs.entry_in.Statement.{statement}
 use Rattle.feed.proofs.entry_in.Tie as tie
@@ -23,7 +23,7 @@ get32-requires-4 : tie.Need-get32-requires-4
 get32-requires-4 c κs = search needs
 
 returns : tie.Need-returns
-returns c = simp (c .get324 .ensures, c .before .get323 .ensures, c .before .before .get322 .ensures, c .before .before .before .get32 .ensures, c .before .before .before .before .get16 .ensures) (sym (ap entryOf (entry-places (now (c .before .before .before .before .before .before .args .s)))))
+returns c = simp (c .get324 .ensures, c .before .get323 .ensures, c .before .before .get322 .ensures, c .before .before .before .get32 .ensures, c .before .before .before .before .get16 .ensures) (sym (ap entryFrom (entry-places (now (c .before .before .before .before .before .before .args .s)))))
 
 pub entry-in-spec : {M : Type 1} → statement M
 entry-in-spec =

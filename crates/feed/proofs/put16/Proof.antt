@@ -5,7 +5,7 @@ use lib.ListN.{length-set}
 use lib.Seq.{sets-eq}
 use mathlib.Core.Path.{_≡_}
 use denote.Ref.{now}
-use Prim.Native.Nat.{_+_, _/_, _%_}
+use Prim.Native.Nat.{_/_, _%_}
 use borrow.Author.Needs.{needs}
 use Rattle.feed.specs.Number.{bytes, put}
 use Rattle.feed.proofs.put16.Statement.{statement}

@@ -1,6 +1,5 @@
 -- `read` meets its contract: it reads the head of what is left at the place.
 use borrow.Author.Needs.{needs}
-use native.Mathlib.Omega.{arith}
 use mathlib.Core.Path.{sym, ap, _∙_}
 use denote.Ref.{now}
 use Rattle.feed.specs.declared.Feed.the-variants.{Input}

@@ -1,6 +1,6 @@
 -- `record_in` meets its contract: the length that the table gives to the kind covers its fields.
 use native.Mathlib.Omega.{arith}
-use mathlib.Core.Path.{sym, ap, _∙_}
+use mathlib.Core.Path.{ap, _∙_}
 use borrow.Author.Tests.{ne-eqb}
 use Rattle.feed.specs.declared.Feed.the-variants.{Input}
 use Rattle.feed.specs.Kind.{lengthsOf}

@@ -11,7 +11,6 @@ use Rattle.feed.specs.declared.Reading.{Reading}
 use Rattle.feed.specs.declared.Reading.the-variants.{Found, Refused, End}
 use Rattle.feed.specs.declared.Record.{Record}
 use Rattle.feed.specs.declared.Record.the-variants.{Entry, Mark, Close, Note}
-use Rattle.feed.specs.Reading.{reading}
 use Rattle.feed.specs.Text.{textOf, textIn, textAt}
 use Rattle.feed.proofs.Readings.{note-ends}
 use Rattle.feed.proofs.Reading.{the-type as reading-type}

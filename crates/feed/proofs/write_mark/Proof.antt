@@ -2,15 +2,14 @@
 use borrow.Author.Needs.{needs}
 use native.Mathlib.Omega.{arith}
 use mathlib.Core.List.{List, [], _++_}
-use mathlib.Core.Path.{_≡_, sym, ap, _∙_}
+use mathlib.Core.Path.{sym, ap, _∙_}
 use Prim.Native.Nat.{ℕ}
 use lib.Dec.{lit≤}
 use borrow.Author.Tests.{lt-ltb, le-ltb}
 use denote.Ref.{now}
 use Rattle.feed.specs.declared.Record.the-variants.{Mark}
-use Rattle.feed.specs.declared.Writing.{Writing}
 use Rattle.feed.specs.declared.Writing.the-variants.{Written}
-use Rattle.feed.specs.Number.{bytes, put}
+use Rattle.feed.specs.Number.{bytes}
 use Rattle.feed.specs.Record.{recordBytes, streamKnown}
 use Rattle.feed.proofs.Numbers.{put-then}
 use Rattle.feed.proofs.Writings.{stream-refused, room-refused, record-written}
