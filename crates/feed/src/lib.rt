@@ -105,7 +105,9 @@ fn get16(s: &[u8], at: usize) -> u16
     requires { ⌜ at + 2 ≤ length (now s) ⌝ }
     ensures { λ r. ⌜ r ≡ value (take 2 (drop at (now (s .entry)))) ⌝ }
 {
-    (s[at] as u16) + 256 * (s[at + 1] as u16)
+    let low = s[at];
+    let high = s[at + 1];
+    (low as u16) + 256 * (high as u16)
 }
 
 // The number in four bytes from a place on.

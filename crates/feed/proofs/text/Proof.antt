@@ -47,7 +47,7 @@ unfolding textAt
 returns c =
     let a = c .before .before .before .before .args in
     let nowhere : textAt (now (a .s)) (a .at) ≡ (0, 0) = ap (textIn (a .at)) (sym (c .before .before .read .ensures)) ∙ no-record (a .at) (c .before .before .read .result) (c .before .match .keys2) in
-    rw (nowhere, zero-add) (refl, refl)
+    simp (nowhere, zero-add) (refl, refl)
 
 enum-known-record : tie.Need-enum-known-record
 enum-known-record c = search needs
@@ -60,7 +60,7 @@ unfolding textAt
 returns-2 c =
     let a = c .before .before .before .before .before .before .before .args in
     let nowhere : textAt (now (a .s)) (a .at) ≡ (0, 0) = ap (textIn (a .at)) (sym (c .before .before .before .before .before .read .ensures) ∙ c .before .before .before .found .given .1) ∙ no-note (a .at) (c .before .before .before .found .given .0 .0) (c .before .match2 .keys2) in
-    rw (nowhere, zero-add) (refl, refl)
+    simp (nowhere, zero-add) (refl, refl)
 
 add-from : tie.Need-add-from
 add-from c =
