@@ -2,7 +2,6 @@ pub mod Numbers
 pub mod Heads
 pub mod Fields
 pub mod Readings
-pub mod Writings
 pub mod Locality
 pub mod WriteRead
 pub mod ReadWrite

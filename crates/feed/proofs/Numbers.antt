@@ -3,12 +3,12 @@ use Prim.Native.Nat.{ℕ, zero, suc, _+_, _*_, _/_, _%_, _^_, _≤_, _<_}
 use native.Mathlib.Nat.{pow-zero, pow-suc, mul-assoc, mul-comm, one-mul, zero-add}
 use native.Mathlib.Numerals.{add-one}
 use native.Mathlib.Omega.{arith}
-use mathlib.Core.List.{List, [], _∷_, _++_, append-assoc}
-use mathlib.Core.Path.{_≡_, refl, ap, _∙_}
-use lib.ListN.{length, take, drop, getD, length-append, length-take, length-drop}
-use lib.Seq.{take-at, drop-at, drop-drop, drop-cons, take-add, length-take-le}
+use mathlib.Core.List.{List, [], _∷_, _++_}
+use mathlib.Core.Path.{_≡_, refl, ap}
+use lib.ListN.{length, take, drop, getD}
+use lib.Seq.{drop-cons, take-add, length-take-le}
 use Rattle.lists.proofs.All.{All}
-use Rattle.feed.specs.Number.{value, bytes, put}
+use Rattle.feed.specs.Number.{value, bytes}
 
 -- ---- a number and its bytes
 
@@ -77,30 +77,3 @@ value-split m n bs h = rw (take-add m n bs, value-append (take m bs) (take n (dr
 -- the bytes from a place on, one by one
 pub take-next : (n at : ℕ) (s : List ℕ) → at < length s → take (suc n) (drop at s) ≡ getD s at 0 ∷ take n (drop (at + 1) s)
 take-next n at s h = rw (add-one, drop-cons s at 0 h)
-
--- ---- bytes put into a buffer
-
-pub put-length : (at : ℕ) (bs buf : List ℕ) → at + length bs ≤ length buf → length (put at bs buf) ≡ length buf
-unfolding put
-put-length at bs buf h = simp (length-append, length-take, length-drop) (omega arith)
-
--- bytes put behind others that were put
-pub put-put : (at : ℕ) (xs ys buf : List ℕ) → at + length xs + length ys ≤ length buf → put (at + length xs) ys (put at xs buf) ≡ put at (xs ++ ys) buf
-unfolding put
-put-put at xs ys buf h =
-    let front = take at buf ++ xs in
-    let back = drop (at + length xs) buf in
-    let long : length front ≡ at + length xs = simp (length-append, length-take) (omega arith) in
-    let whole : at + length (xs ++ ys) ≡ at + length xs + length ys = simp length-append (omega arith) in
-    let rest : drop (at + length xs + length ys) (front ++ back) ≡ drop (at + length (xs ++ ys)) buf =
-    rw (← drop-drop (length ys) (at + length xs) (front ++ back), drop-at front back (at + length xs) long, drop-drop (length ys) (at + length xs) buf, whole) in
-    rw (take-at front back (at + length xs) long, rest, append-assoc (take at buf) xs ys)
-
--- bytes put at the start of a buffer that has room for them
-pub put-first : (bs buf : List ℕ) → put 0 bs buf ≡ bs ++ drop (length bs) buf
-unfolding put
-put-first bs buf = rw zero-add
-
--- code that puts bytes, and more behind them
-pub put-then : (at : ℕ) (xs ys old : List ℕ) {mid new : List ℕ} → mid ≡ put at xs old → new ≡ put (at + length xs) ys mid → at + length xs + length ys ≤ length old → new ≡ put at (xs ++ ys) old
-put-then at xs ys old p q h = q ∙ ap (put (at + length xs) ys) p ∙ put-put at xs ys old h

@@ -1,6 +1,7 @@
 -- Read, then written: what is read is written back to exactly its bytes, notes with their text, pairs in output feeds.
 use Prim.Native.Nat.{ℕ, _+_, _-_, _≤_}
 use native.Mathlib.Omega.{arith}
+use mathlib.Core.Bool.{true}
 use mathlib.Core.List.{List, _++_}
 use mathlib.Core.Path.{_≡_, refl, sym, ap, _∙_}
 use lib.Dec.{lit≤}
@@ -14,19 +15,15 @@ use Rattle.feed.specs.declared.PairReading.the-variants.{Found as FoundP
 use Rattle.feed.specs.declared.Reading.the-variants.{Found}
 use Rattle.feed.specs.declared.Record.{Record}
 use Rattle.feed.specs.declared.Record.the-variants.{Note}
-use Rattle.feed.specs.declared.Writing.{Writing}
-use Rattle.feed.specs.declared.Writing.the-variants.{Written}
-use Rattle.feed.specs.Number.{bytes, put}
+use Rattle.feed.specs.Number.{bytes}
 use Rattle.feed.specs.Kind.{Kind, entry, mark, close, pair, kindsOf, framed, packed, fieldsIn}
-use Rattle.feed.specs.Record.{pairFrom, recordIn, recordBytes, pairBytes}
+use Rattle.feed.specs.Record.{pairFrom, recordIn, recordBytes, pairBytes, streamKnown}
 use Rattle.feed.specs.Reading.{lengthIn, kindIn, headOf, reading, pairReadingOf, pairReadingFrom, pairReading}
 use Rattle.feed.specs.Text.{textOf, textIn, textAt, stretch}
-use Rattle.feed.specs.Writing.{recordWriting, pairWriting}
-use Rattle.feed.proofs.Numbers.{Bytes, bytes-drop, bytes-value-take, put-first}
+use Rattle.feed.proofs.Numbers.{Bytes, bytes-drop, bytes-value-take}
 use Rattle.feed.proofs.Fields.{total, packed-unpacked}
 use Rattle.feed.proofs.Heads.{Row, here, there, whole-elim, whole-row, whole-pair}
 use Rattle.feed.proofs.Readings.{found-elim}
-use Rattle.feed.proofs.Writings.{record-written, pair-written}
 
 -- the text at a place of a feed: nothing, unless a note stands there
 abbrev pub textBytes : List ℕ → ℕ → List ℕ
@@ -140,33 +137,23 @@ pair-back s at {p} {next} b h =
     ∙ packed-back pair (f .size) (drop at s) (bytes-drop at s b) (sym (is .0) ∙ w .kind-in) (w .size-in) (w .enough) (omega arith)
     ∙ ap (λ (m : ℕ). take m (drop at s)) rest
 
--- ---- so writing what was read, into a buffer with room, answers its length and leaves its bytes at the buffer's start
+-- what else writing asks of a record that was found: its stream is known, its text is short, and its bytes are there
+pub found-stream : (s : List ℕ) (at : ℕ) {r : Record} {next : ℕ} → reading s at ≡ Found r next → streamKnown r ≡ true
+found-stream s at h = found-elim s at h .stream
 
-module _ (buf bs front : List ℕ) (size : ℕ) (same : bs ≡ front) (long : length front ≡ size) where
-  left-same : _≡_ {A = Writing × List ℕ} (Written (length bs), put 0 bs buf) (Written size, front ++ drop size buf)
-  left-same =
-      ap (λ (l : List ℕ). (Written (length bs), l)) (put-first bs buf)
-      ∙ ap (λ (l : List ℕ). (Written (length l), l ++ drop (length l) buf)) same
-      ∙ ap (λ (m : ℕ). (Written m, front ++ drop m buf)) long
+pub text-short : (s : List ℕ) (at : ℕ) {r : Record} {next : ℕ} → Bytes s → reading s at ≡ Found r next → length (textBytes s at) ≤ 64
+text-short s at b h = found-back s at b h .short
 
-pub read-writes : (s : List ℕ) (at : ℕ) (buf : List ℕ) {r : Record} {next : ℕ} → Bytes s → reading s at ≡ Found r next → next - at ≤ length buf
-    → recordWriting r (textBytes s at) buf ≡ (Written (next - at), take (next - at) (drop at s) ++ drop (next - at) buf)
-read-writes s at buf {r} {next} b h room =
-    let found = found-back s at b h in
+pub found-length : (s : List ℕ) (at : ℕ) {r : Record} {next : ℕ} → reading s at ≡ Found r next → length (take (next - at) (drop at s)) ≡ next - at
+found-length s at {r} {next} h =
     let f = found-elim s at h in
     let after = f .next-at in
     let enough = whole-elim Input (drop at s) (f .head) .enough in
-    let long : length (take (next - at) (drop at s)) ≡ next - at = length-take-le (next - at) (drop at s) (omega arith) in
-    let fits : length (recordBytes r (textBytes s at)) ≤ length buf = rw (found .same, long) room in
-    record-written r (textBytes s at) buf (f .stream) (found .short) fits ∙ left-same buf (recordBytes r (textBytes s at)) (take (next - at) (drop at s)) (next - at) (found .same) long
+    length-take-le (next - at) (drop at s) (omega arith)
 
-pub pair-read-writes : (s : List ℕ) (at : ℕ) (buf : List ℕ) {p : Pair} {next : ℕ} → Bytes s → pairReading s at ≡ FoundPair p next → next - at ≤ length buf
-    → pairWriting p buf ≡ (Written (next - at), take (next - at) (drop at s) ++ drop (next - at) buf)
-pair-read-writes s at buf {p} {next} b h room =
-    let same = pair-back s at b h in
+pub pair-found-length : (s : List ℕ) (at : ℕ) {p : Pair} {next : ℕ} → pairReading s at ≡ FoundPair p next → length (take (next - at) (drop at s)) ≡ next - at
+pair-found-length s at {p} {next} h =
     let f = pair-elim s at h in
     let after = f .next-at in
     let enough = whole-elim Output (drop at s) (f .head) .enough in
-    let long : length (take (next - at) (drop at s)) ≡ next - at = length-take-le (next - at) (drop at s) (omega arith) in
-    let fits : length (pairBytes p) ≤ length buf = rw (same, long) room in
-    pair-written p buf fits ∙ left-same buf (pairBytes p) (take (next - at) (drop at s)) (next - at) same long
+    length-take-le (next - at) (drop at s) (omega arith)

@@ -1,14 +1,11 @@
 -- Written, then read: what is written is read back as the same record with the place after it, whatever else the buffer or the feed holds.
 use Prim.Native.Nat.{ℕ, _+_, _-_, _^_, _≤_, _<_}
-use native.Mathlib.Nat.{zero-add}
 use native.Mathlib.Omega.{arith}
-use mathlib.Core.Bool.{Bool, true, false, not}
-use mathlib.Core.List.{List, [], _∷_, _++_}
-use mathlib.Core.Path.{_≡_, refl, sym, ap, _∙_}
-use lib.Dec.{ltb}
-use lib.ListN.{length, drop, length-append}
+use mathlib.Core.Bool.{true}
+use mathlib.Core.List.{List, _++_}
+use mathlib.Core.Path.{_≡_, ap, _∙_}
+use lib.ListN.{length, length-append}
 use lib.Seq.{drop-append-seam}
-use borrow.Author.Tests.{ltb-false}
 use Rattle.pairing.specs.declared.Pair.{Pair}
 use Rattle.feed.specs.declared.Feed.{Feed}
 use Rattle.feed.specs.declared.Feed.the-variants.{Input, Output}
@@ -18,13 +15,9 @@ use Rattle.feed.specs.declared.PairReading.the-variants.{Found as FoundP
 use Rattle.feed.specs.declared.Reading.the-variants.{Found}
 use Rattle.feed.specs.declared.Record.{Record}
 use Rattle.feed.specs.declared.Record.the-variants.{Entry as entryRecord, Mark, Close, Note}
-use Rattle.feed.specs.declared.Writing.{Writing}
-use Rattle.feed.specs.declared.Writing.the-variants.{Written, Refused}
 use Rattle.feed.specs.Kind.{entry, mark, close, pair, lengthsOf, framed, packed}
 use Rattle.feed.specs.Record.{entryFrom, markFrom, closeFrom, entryNumbers, markNumbers, closeNumbers, pairNumbers, pairFrom, recordIn, recordBytes, pairBytes, streamKnown}
-use Rattle.feed.specs.Check.{firstOf, unless}
 use Rattle.feed.specs.Reading.{lengthIn, kindIn, outside, kindChecks, headUnless, headOf, foundAt, readingFrom, reading, pairReadingOf, pairReadingFrom, pairReading}
-use Rattle.feed.specs.Writing.{writing, recordWriting, pairWriting}
 use Rattle.feed.proofs.Numbers.{value-bytes}
 use Rattle.feed.proofs.Fields.{Room, unpacked-packed}
 use Rattle.feed.proofs.Heads.{inside-intro, lengths-entry, lengths-mark, lengths-close, lengths-note, lengths-pair, head-kind, kind-fit}
@@ -95,35 +88,3 @@ pub pair-reads-in : (p : Pair) (front rest : List ℕ) → Room (pair .fields) (
     → pairReading (front ++ (pairBytes p ++ rest)) (length front) ≡ FoundPair p (length front + length (pairBytes p))
 unfolding pairReading
 pair-reads-in p front rest fit = rw (drop-append-seam front (pairBytes p ++ rest)) (pair-reads p rest (length front) fit)
-
--- what a writing left in the buffer is read back from its start, with the place after it
-pub written-reads : (r : Record) (text buf : List ℕ) {size : ℕ} {left : List ℕ} → Fitting r text → recordWriting r text buf ≡ (Written size, left) → reading left 0 ≡ Found r size
-unfolding recordWriting writing
-written-reads r text buf {size} {left} fit h = go (streamKnown r) (ltb 64 (length text)) (ltb (length buf) (length (recordBytes r text))) refl refl h
-  where
-    go : (known long short : Bool) → streamKnown r ≡ known → ltb 64 (length text) ≡ long
-        → _≡_ {A = Writing × List ℕ} (unless (firstOf ((not known, 1) ∷ (long, 10) ∷ (short, 12) ∷ [])) (λ (number : ℕ). (Refused number, buf)) (Written (length (recordBytes r text)), recordBytes r text ++ drop (length (recordBytes r text)) buf)) (Written size, left)
-        → reading left 0 ≡ Found r size
-    go false long short k l e = absurd (let f = ap (λ (x : Writing × List ℕ). x .0) e in let z : _≡_ {A = ℕ} 0 1 = cc in omega arith)
-    go true true short k l e = absurd (let f = ap (λ (x : Writing × List ℕ). x .0) e in let z : _≡_ {A = ℕ} 0 1 = cc in omega arith)
-    go true false true k l e = absurd (let f = ap (λ (x : Writing × List ℕ). x .0) e in let z : _≡_ {A = ℕ} 0 1 = cc in omega arith)
-    go true false false k l e =
-        let answer : Written (length (recordBytes r text)) ≡ Written size = ap (λ (x : Writing × List ℕ). x .0) e in
-        let same : length (recordBytes r text) ≡ size = cc in
-        ap (λ (l : List ℕ). reading l 0) (sym (ap (λ (x : Writing × List ℕ). x .1) e))
-        ∙ record-reads-in r text [] (drop (length (recordBytes r text)) buf) fit k (ltb-false 64 (length text) l)
-        ∙ ap (Found r) (zero-add (length (recordBytes r text)) ∙ same)
-
-pub pair-written-reads : (p : Pair) (buf : List ℕ) {size : ℕ} {left : List ℕ} → Room (pair .fields) (pairNumbers p) → pairWriting p buf ≡ (Written size, left) → pairReading left 0 ≡ FoundPair p size
-unfolding pairWriting writing
-pair-written-reads p buf {size} {left} fit h = go (ltb (length buf) (length (pairBytes p))) h
-  where
-    go : (short : Bool) → _≡_ {A = Writing × List ℕ} (unless (firstOf ((short, 12) ∷ [])) (λ (number : ℕ). (Refused number, buf)) (Written (length (pairBytes p)), pairBytes p ++ drop (length (pairBytes p)) buf)) (Written size, left)
-        → pairReading left 0 ≡ FoundPair p size
-    go true e = absurd (let f = ap (λ (x : Writing × List ℕ). x .0) e in let z : _≡_ {A = ℕ} 0 1 = cc in omega arith)
-    go false e =
-        let answer : Written (length (pairBytes p)) ≡ Written size = ap (λ (x : Writing × List ℕ). x .0) e in
-        let same : length (pairBytes p) ≡ size = cc in
-        ap (λ (l : List ℕ). pairReading l 0) (sym (ap (λ (x : Writing × List ℕ). x .1) e))
-        ∙ pair-reads-in p [] (drop (length (pairBytes p)) buf) fit
-        ∙ ap (FoundPair p) (zero-add (length (pairBytes p)) ∙ same)

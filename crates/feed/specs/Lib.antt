@@ -4,4 +4,3 @@ pub mod Record
 pub mod Check
 pub mod Reading
 pub mod Text
-pub mod Writing

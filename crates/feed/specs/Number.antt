@@ -1,7 +1,6 @@
 -- House layout, little-endian. A number of a width is so many bytes, the least first.
 use Prim.Native.Nat.{ℕ, zero, suc, _+_, _*_, _/_, _%_}
-use mathlib.Core.List.{List, [], _∷_, _++_}
-use lib.ListN.{length, take, drop}
+use mathlib.Core.List.{List, [], _∷_}
 
 -- the number in some bytes
 abbrev pub value : List ℕ → ℕ
@@ -12,7 +11,3 @@ value (b ∷ bs) = b + 256 * value bs
 abbrev pub bytes : ℕ → ℕ → List ℕ
 bytes zero x = []
 bytes (suc n) x = x % 256 ∷ bytes n (x / 256)
-
--- some bytes put over as many of a buffer from a place on; no other byte is touched
-unfoldable pub put : ℕ → List ℕ → List ℕ → List ℕ
-put at bs buf = take at buf ++ bs ++ drop (at + length bs) buf

@@ -34,7 +34,7 @@ fn print_refusal(s: &[u8]) {
 
 fn main() {
     let mut mark = [0u8; 10];
-    feed::write_mark(&mut mark, 1, 30);
+    feed_write::write_mark(&mut mark, 1, 30);
     print_bytes(&mark);
     print_refusal(b"\x08");
     print_refusal(b"\x00\x00");

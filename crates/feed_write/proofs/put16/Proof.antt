@@ -7,9 +7,10 @@ use mathlib.Core.Path.{_≡_}
 use denote.Ref.{now}
 use Prim.Native.Nat.{_/_, _%_}
 use borrow.Author.Needs.{needs}
-use Rattle.feed.specs.Number.{bytes, put}
-use Rattle.feed.proofs.put16.Statement.{statement}
-use Rattle.feed.proofs.put16.Tie as tie
+use Rattle.feed.specs.Number.{bytes}
+use Rattle.feed_write.specs.Writing.{put}
+use Rattle.feed_write.proofs.put16.Statement.{statement}
+use Rattle.feed_write.proofs.put16.Tie as tie
 
 cast-buf : tie.Need-cast-buf
 cast-buf c = search needs

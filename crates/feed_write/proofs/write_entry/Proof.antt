@@ -7,14 +7,14 @@ use Prim.Native.Nat.{ℕ}
 use lib.Dec.{lit≤}
 use borrow.Author.Tests.{lt-ltb, le-ltb}
 use denote.Ref.{now}
 use Rattle.feed.specs.declared.Record.the-variants.{Entry}
-use Rattle.feed.specs.declared.Writing.the-variants.{Written}
+use Rattle.feed_write.specs.declared.Writing.the-variants.{Written}
 use Rattle.feed.specs.Number.{bytes}
 use Rattle.feed.specs.Record.{recordBytes, streamKnown}
-use Rattle.feed.proofs.Numbers.{put-then}
-use Rattle.feed.proofs.Writings.{stream-refused, room-refused, record-written}
-use Rattle.feed.proofs.write_entry.Statement.{statement}
-use Rattle.feed.proofs.write_entry.Tie as tie
+use Rattle.feed_write.proofs.Puts.{put-then}
+use Rattle.feed_write.proofs.Writings.{stream-refused, room-refused, record-written}
+use Rattle.feed_write.proofs.write_entry.Statement.{statement}
+use Rattle.feed_write.proofs.write_entry.Tie as tie
 
 returns : tie.Need-returns
 unfolding streamKnown

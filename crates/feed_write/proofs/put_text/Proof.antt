@@ -6,9 +6,9 @@ use mathlib.Core.Path.{_≡_, refl, _∙_}
 use lib.ListN.{length, length-set}
 use lib.Seq.{paste, paste-zero, paste-suc, take-length}
 use denote.Ref.{now}
-use Rattle.feed.specs.Number.{put}
-use Rattle.feed.proofs.put_text.Statement.{statement}
-use Rattle.feed.proofs.put_text.Tie as tie
+use Rattle.feed_write.specs.Writing.{put}
+use Rattle.feed_write.proofs.put_text.Statement.{statement}
+use Rattle.feed_write.proofs.put_text.Tie as tie
 
 abbrev Inv-loop : tie.InvT-loop
 Inv-loop buf₀ at text i₀ buf i = (i ≤ length text) × (buf ≡ paste buf₀ at text i) × (length buf ≡ length buf₀)

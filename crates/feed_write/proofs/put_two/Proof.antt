@@ -2,10 +2,10 @@
 use borrow.Author.Needs.{needs}
 use native.Mathlib.Omega.{arith}
 use denote.Ref.{now}
 use Rattle.feed.specs.Number.{bytes}
-use Rattle.feed.proofs.Numbers.{put-then}
-use Rattle.feed.proofs.put_two.Statement.{statement}
-use Rattle.feed.proofs.put_two.Tie as tie
+use Rattle.feed_write.proofs.Puts.{put-then}
+use Rattle.feed_write.proofs.put_two.Statement.{statement}
+use Rattle.feed_write.proofs.put_two.Tie as tie
 
 put32-requires : tie.Need-put32-requires
 put32-requires c κs = search needs

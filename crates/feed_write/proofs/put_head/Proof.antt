@@ -2,10 +2,10 @@
 use borrow.Author.Needs.{needs}
 use native.Mathlib.Omega.{arith}
 use denote.Ref.{now}
 use Rattle.feed.specs.Number.{bytes}
-use Rattle.feed.proofs.Numbers.{put-then}
-use Rattle.feed.proofs.put_head.Statement.{statement}
-use Rattle.feed.proofs.put_head.Tie as tie
+use Rattle.feed_write.proofs.Puts.{put-then}
+use Rattle.feed_write.proofs.put_head.Statement.{statement}
+use Rattle.feed_write.proofs.put_head.Tie as tie
 
 put16-requires : tie.Need-put16-requires
 put16-requires c κs = search needs

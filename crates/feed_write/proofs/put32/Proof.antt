@@ -8,10 +8,11 @@ use lib.Arith.{mod-mul, digits-div}
 use lib.Dec.{lit<}
 use Prim.Native.Nat.{ℕ, _+_, _*_, _/_, _%_}
 use borrow.Author.Needs.{needs}
-use Rattle.feed.specs.Number.{bytes, put}
-use Rattle.feed.proofs.Numbers.{put-put}
-use Rattle.feed.proofs.put32.Statement.{statement}
-use Rattle.feed.proofs.put32.Tie as tie
+use Rattle.feed.specs.Number.{bytes}
+use Rattle.feed_write.specs.Writing.{put}
+use Rattle.feed_write.proofs.Puts.{put-put}
+use Rattle.feed_write.proofs.put32.Statement.{statement}
+use Rattle.feed_write.proofs.put32.Tie as tie
 
 cast-put16 : tie.Need-cast-put16
 cast-put16 c = search needs

@@ -1,15 +1,15 @@
 -- Writing starts at the buffer's first byte and touches no byte past the record; it answers the record's whole length, the two length bytes included. A refusal returns its number, and the buffer holds what it held.
-use Prim.Native.Nat.{ℕ}
+use Prim.Native.Nat.{ℕ, _+_}
 use mathlib.Core.Bool.{Bool, not}
 use mathlib.Core.List.{List, [], _∷_, _++_}
-use lib.ListN.{length, drop}
+use lib.ListN.{length, take, drop}
 use lib.Dec.{ltb}
 use Rattle.pairing.specs.declared.Pair.{Pair}
 use Rattle.feed.specs.declared.Record.{Record}
-use Rattle.feed.specs.declared.Writing.{Writing}
-use Rattle.feed.specs.declared.Writing.the-variants.{Written, Refused}
+use Rattle.feed_write.specs.declared.Writing.{Writing}
+use Rattle.feed_write.specs.declared.Writing.the-variants.{Written, Refused}
 use Rattle.feed.specs.Check.{firstOf, unless}
 use Rattle.feed.specs.Record.{recordBytes, pairBytes, streamKnown}
 
 -- what is answered and what the buffer then holds, for bytes that own checks may refuse. The last check is a buffer shorter than the record (12).
 unfoldable pub writing : List (Bool × ℕ) → List ℕ → List ℕ → Writing × List ℕ
@@ -24,3 +24,7 @@ recordWriting written text buf = writing ((not (streamKnown written), 1) ∷ (lt
 
 unfoldable pub pairWriting : Pair → List ℕ → Writing × List ℕ
 pairWriting p buf = writing [] (pairBytes p) buf
+
+-- some bytes put over as many of a buffer from a place on; no other byte is touched
+unfoldable pub put : ℕ → List ℕ → List ℕ → List ℕ
+put at bs buf = take at buf ++ bs ++ drop (at + length bs) buf

@@ -5,13 +5,13 @@ use mathlib.Core.List.{List, _++_}
 use mathlib.Core.Path.{sym, ap, _∙_}
 use Prim.Native.Nat.{ℕ}
 use denote.Ref.{now}
-use Rattle.feed.specs.declared.Writing.the-variants.{Written}
+use Rattle.feed_write.specs.declared.Writing.the-variants.{Written}
 use Rattle.feed.specs.Number.{bytes}
 use Rattle.feed.specs.Record.{pairBytes}
-use Rattle.feed.proofs.Numbers.{put-then}
-use Rattle.feed.proofs.Writings.{pair-room-refused, pair-written}
-use Rattle.feed.proofs.write_pair.Statement.{statement}
-use Rattle.feed.proofs.write_pair.Tie as tie
+use Rattle.feed_write.proofs.Puts.{put-then}
+use Rattle.feed_write.proofs.Writings.{pair-room-refused, pair-written}
+use Rattle.feed_write.proofs.write_pair.Statement.{statement}
+use Rattle.feed_write.proofs.write_pair.Tie as tie
 
 returns : tie.Need-returns
 unfolding pairBytes
