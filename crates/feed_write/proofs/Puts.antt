@@ -4,13 +4,9 @@ use native.Mathlib.Nat.{zero-add}
 use native.Mathlib.Omega.{arith}
 use mathlib.Core.List.{List, _++_, append-assoc}
 use mathlib.Core.Path.{_≡_, ap, _∙_}
-use lib.ListN.{length, take, drop, length-append, length-take, length-drop}
+use lib.ListN.{length, take, drop, length-append, length-take}
 use lib.Seq.{take-at, drop-at, drop-drop}
-use Rattle.feed_write.specs.Writing.{put}
-
-pub put-length : (at : ℕ) (bs buf : List ℕ) → at + length bs ≤ length buf → length (put at bs buf) ≡ length buf
-unfolding put
-put-length at bs buf h = simp (length-append, length-take, length-drop) (omega arith)
+use Rattle.feed_write.specs.Put.{put}
 
 -- bytes put behind others that were put
 pub put-put : (at : ℕ) (xs ys buf : List ℕ) → at + length xs + length ys ≤ length buf → put (at + length xs) ys (put at xs buf) ≡ put at (xs ++ ys) buf

@@ -18,7 +18,8 @@ use Rattle.feed.specs.Kind.{pair}
 use Rattle.feed.specs.Record.{pairNumbers, recordBytes, pairBytes, streamKnown}
 use Rattle.feed.specs.Check.{firstOf, unless}
 use Rattle.feed.specs.Reading.{reading, pairReading}
-use Rattle.feed_write.specs.Writing.{writing, recordWriting, pairWriting, put}
+use Rattle.feed_write.specs.Put.{put}
+use Rattle.feed_write.specs.Writing.{writing, recordWriting, pairWriting}
 use Rattle.feed.proofs.Numbers.{Bytes}
 use Rattle.feed.proofs.Fields.{Room}
 use Rattle.feed_write.proofs.Writings.{record-written, pair-written}
@@ -28,6 +29,9 @@ use Rattle.feed_write.proofs.Puts.{put-first}
 
 -- ---- written, then read: what a writing left in the buffer is read back from its start, with the place after it
 
+not-written : {number size : ℕ} {buf left : List ℕ} → _≡_ {A = Writing × List ℕ} (Refused number, buf) (Written size, left) → ⊥
+not-written e = let f = ap (λ (x : Writing × List ℕ). x .0) e in let z : _≡_ {A = ℕ} 0 1 = cc in omega arith
+
 pub written-reads : (r : Record) (text buf : List ℕ) {size : ℕ} {left : List ℕ} → Fitting r text → recordWriting r text buf ≡ (Written size, left) → reading left 0 ≡ Found r size
 unfolding recordWriting writing
 written-reads r text buf {size} {left} fit h = go (streamKnown r) (ltb 64 (length text)) (ltb (length buf) (length (recordBytes r text))) refl refl h
@@ -35,9 +39,9 @@ written-reads r text buf {size} {left} fit h = go (streamKnown r) (ltb 64 (lengt
     go : (known long short : Bool) → streamKnown r ≡ known → ltb 64 (length text) ≡ long
         → _≡_ {A = Writing × List ℕ} (unless (firstOf ((not known, 1) ∷ (long, 10) ∷ (short, 12) ∷ [])) (λ (number : ℕ). (Refused number, buf)) (Written (length (recordBytes r text)), recordBytes r text ++ drop (length (recordBytes r text)) buf)) (Written size, left)
         → reading left 0 ≡ Found r size
-    go false long short k l e = absurd (let f = ap (λ (x : Writing × List ℕ). x .0) e in let z : _≡_ {A = ℕ} 0 1 = cc in omega arith)
-    go true true short k l e = absurd (let f = ap (λ (x : Writing × List ℕ). x .0) e in let z : _≡_ {A = ℕ} 0 1 = cc in omega arith)
-    go true false true k l e = absurd (let f = ap (λ (x : Writing × List ℕ). x .0) e in let z : _≡_ {A = ℕ} 0 1 = cc in omega arith)
+    go false long short k l e = absurd (not-written e)
+    go true true short k l e = absurd (not-written e)
+    go true false true k l e = absurd (not-written e)
     go true false false k l e =
         let answer : Written (length (recordBytes r text)) ≡ Written size = ap (λ (x : Writing × List ℕ). x .0) e in
         let same : length (recordBytes r text) ≡ size = cc in
@@ -51,7 +55,7 @@ pair-written-reads p buf {size} {left} fit h = go (ltb (length buf) (length (pai
   where
     go : (short : Bool) → _≡_ {A = Writing × List ℕ} (unless (firstOf ((short, 12) ∷ [])) (λ (number : ℕ). (Refused number, buf)) (Written (length (pairBytes p)), pairBytes p ++ drop (length (pairBytes p)) buf)) (Written size, left)
         → pairReading left 0 ≡ FoundPair p size
-    go true e = absurd (let f = ap (λ (x : Writing × List ℕ). x .0) e in let z : _≡_ {A = ℕ} 0 1 = cc in omega arith)
+    go true e = absurd (not-written e)
     go false e =
         let answer : Written (length (pairBytes p)) ≡ Written size = ap (λ (x : Writing × List ℕ). x .0) e in
         let same : length (pairBytes p) ≡ size = cc in

@@ -8,7 +8,8 @@ use borrow.Author.Tests.{lt-ltb, le-ltb}
 use Rattle.pairing.specs.declared.Pair.{Pair}
 use Rattle.feed.specs.declared.Record.{Record}
 use Rattle.feed_write.specs.declared.Writing.the-variants.{Written, Refused}
-use Rattle.feed_write.specs.Writing.{put, writing, recordWriting, pairWriting}
+use Rattle.feed_write.specs.Put.{put}
+use Rattle.feed_write.specs.Writing.{writing, recordWriting, pairWriting}
 use Rattle.feed.specs.Record.{recordBytes, pairBytes, streamKnown}
 use Rattle.feed_write.proofs.Puts.{put-first}
 

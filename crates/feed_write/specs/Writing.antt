@@ -1,8 +1,8 @@
 -- Writing starts at the buffer's first byte and touches no byte past the record; it answers the record's whole length, the two length bytes included. A refusal returns its number, and the buffer holds what it held.
-use Prim.Native.Nat.{ℕ, _+_}
+use Prim.Native.Nat.{ℕ}
 use mathlib.Core.Bool.{Bool, not}
 use mathlib.Core.List.{List, [], _∷_, _++_}
-use lib.ListN.{length, take, drop}
+use lib.ListN.{length, drop}
 use lib.Dec.{ltb}
 use Rattle.pairing.specs.declared.Pair.{Pair}
 use Rattle.feed.specs.declared.Record.{Record}
@@ -24,7 +24,3 @@ recordWriting written text buf = writing ((not (streamKnown written), 1) ∷ (lt
 
 unfoldable pub pairWriting : Pair → List ℕ → Writing × List ℕ
 pairWriting p buf = writing [] (pairBytes p) buf
-
--- some bytes put over as many of a buffer from a place on; no other byte is touched
-unfoldable pub put : ℕ → List ℕ → List ℕ → List ℕ
-put at bs buf = take at buf ++ bs ++ drop (at + length bs) buf

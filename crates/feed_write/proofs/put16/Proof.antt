@@ -8,7 +8,7 @@ use denote.Ref.{now}
 use Prim.Native.Nat.{_/_, _%_}
 use borrow.Author.Needs.{needs}
 use Rattle.feed.specs.Number.{bytes}
-use Rattle.feed_write.specs.Writing.{put}
+use Rattle.feed_write.specs.Put.{put}
 use Rattle.feed_write.proofs.put16.Statement.{statement}
 use Rattle.feed_write.proofs.put16.Tie as tie
 

@@ -9,7 +9,7 @@ use lib.Dec.{lit<}
 use Prim.Native.Nat.{ℕ, _+_, _*_, _/_, _%_}
 use borrow.Author.Needs.{needs}
 use Rattle.feed.specs.Number.{bytes}
-use Rattle.feed_write.specs.Writing.{put}
+use Rattle.feed_write.specs.Put.{put}
 use Rattle.feed_write.proofs.Puts.{put-put}
 use Rattle.feed_write.proofs.put32.Statement.{statement}
 use Rattle.feed_write.proofs.put32.Tie as tie

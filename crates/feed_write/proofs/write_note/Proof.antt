@@ -9,7 +9,7 @@ use denote.Ref.{now}
 use Rattle.feed.specs.declared.Record.the-variants.{Note}
 use Rattle.feed_write.specs.declared.Writing.the-variants.{Written}
 use Rattle.feed.specs.Number.{bytes}
-use Rattle.feed_write.specs.Writing.{put}
+use Rattle.feed_write.specs.Put.{put}
 use Rattle.feed.specs.Record.{recordBytes, streamKnown}
 use Rattle.feed_write.proofs.Puts.{put-then}
 use Rattle.feed_write.proofs.Writings.{text-refused, room-refused, record-written}
