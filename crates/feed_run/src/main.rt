@@ -1,6 +1,10 @@
-// Shows on the compiled code what document 01 asks to be run: the bytes of a mark, and two feeds that are refused.
+// Shows on the compiled code what document 01 asks to be run: the bytes of a mark, and two feeds that are refused. Then a record of each other kind.
 use feed::Reading;
+use interval::Interval;
 use libc::STDOUT_FILENO;
+use pairing::Entry;
+use pairing::Pair;
+use pairing::Partner;
 
 const DIGITS: [u8; 16] = *b"0123456789ABCDEF";
 
@@ -32,10 +36,65 @@ fn print_refusal(s: &[u8]) {
     io::write_all(STDOUT_FILENO, b"\n");
 }
 
+fn print_entry() {
+    let mut buf = [0u8; 22];
+    let span = Interval { start: 10, end: 50 };
+    feed_write::write_entry(
+        &mut buf,
+        0,
+        Entry {
+            span,
+            key: 7,
+            value: 100,
+        },
+    );
+    print_bytes(&buf);
+}
+
+fn print_mark() {
+    let mut buf = [0u8; 10];
+    feed_write::write_mark(&mut buf, 1, 30);
+    print_bytes(&buf);
+}
+
+fn print_close() {
+    let mut buf = [0u8; 6];
+    feed_write::write_close(&mut buf, 1);
+    print_bytes(&buf);
+}
+
+// A note, and its text as it is read back.
+fn print_note() {
+    let mut buf = [0u8; 8];
+    feed_write::write_note(&mut buf, b"lamp");
+    print_bytes(&buf);
+    io::write_all(STDOUT_FILENO, feed::text(&buf, 0));
+    io::write_all(STDOUT_FILENO, b"\n");
+}
+
+fn print_pair() {
+    let mut buf = [0u8; 36];
+    let meeting = Interval { start: 20, end: 30 };
+    let a = Partner {
+        ordinal: 0,
+        key: 7,
+        value: 100,
+    };
+    let b = Partner {
+        ordinal: 1,
+        key: 7,
+        value: 5,
+    };
+    feed_write::write_pair(&mut buf, Pair { meeting, a, b });
+    print_bytes(&buf);
+}
+
 fn main() {
-    let mut mark = [0u8; 10];
-    feed_write::write_mark(&mut mark, 1, 30);
-    print_bytes(&mark);
+    print_mark();
     print_refusal(b"\x08");
     print_refusal(b"\x00\x00");
+    print_entry();
+    print_close();
+    print_note();
+    print_pair();
 }
