@@ -1,0 +1,6 @@
+pub mod Number
+pub mod Kind
+pub mod Record
+pub mod Check
+pub mod Reading
+pub mod Text

@@ -1,0 +1,93 @@
+-- A reading answers a record with the place of the next, or a refusal with its place (the record's first byte), or End where no byte is left, a place past the feed's end included.
+use Prim.Native.Nat.{ℕ, _+_}
+use mathlib.Core.Bool.{Bool, true, false, cond, not, _||_}
+use mathlib.Core.List.{List, [], _∷_}
+use lib.ListN.{length, take, drop}
+use lib.Dec.{ltb, eqb}
+use Rattle.feed.specs.declared.Feed.{Feed}
+use Rattle.feed.specs.declared.Feed.the-variants.{Input, Output}
+use Rattle.feed.specs.declared.Lengths.{Lengths}
+use Rattle.feed.specs.declared.Lengths.the-variants.{Unknown, Within}
+use Rattle.feed.specs.declared.Head.{Head}
+use Rattle.feed.specs.declared.Head.the-variants.{Whole, Refused as refusedHead, End as noHead}
+use Rattle.feed.specs.declared.Reading.{Reading}
+use Rattle.feed.specs.declared.Reading.the-variants.{Found, Refused, End}
+use Rattle.feed.specs.declared.PairReading.{PairReading}
+use Rattle.feed.specs.declared.PairReading.the-variants.{Found as FoundPair, Refused as refusedPair, End as noPair}
+use Rattle.feed.specs.declared.Record.{Record}
+use Rattle.feed.specs.Number.{value}
+use Rattle.feed.specs.Check.{firstOf, unless}
+use Rattle.feed.specs.Kind.{pair, lengthsOf, fieldsIn}
+use Rattle.feed.specs.Record.{recordIn, pairFrom, streamKnown}
+
+-- the length and the kind that stand at the front of some bytes
+abbrev pub lengthIn : List ℕ → ℕ
+lengthIn bs = value (take 2 bs)
+
+abbrev pub kindIn : List ℕ → ℕ
+kindIn bs = value (take 2 (drop 2 bs))
+
+-- a length is below the shortest or above the longest
+unfoldable pub outside : ℕ → ℕ → ℕ → Bool
+outside shortest longest n = ltb n shortest || ltb longest n
+
+-- the feed does not know the kind, or its records have other lengths; the second is only asked of a kind that it knows
+abbrev pub unknown : Lengths → Bool
+unknown Unknown = true
+unknown (Within shortest longest) = false
+
+abbrev pub unfit : Lengths → ℕ → Bool
+unfit Unknown n = true
+unfit (Within shortest longest) n = outside shortest longest n
+
+-- Checks: kind (11), length for the kind (10)
+unfoldable pub kindChecks : Feed → ℕ → ℕ → List (Bool × ℕ)
+kindChecks feed kind size =
+    (unknown (lengthsOf feed kind), 11)
+    ∷ (unfit (lengthsOf feed kind) size, 10)
+    ∷ []
+
+-- Checks: fewer than 2 bytes (9), length below 2 or above 66 (10), fewer bytes than the length (9), then those of the kind
+unfoldable pub headChecks : Feed → List ℕ → List (Bool × ℕ)
+headChecks feed bs =
+    (ltb (length bs) 2, 9)
+    ∷ (outside 2 66 (lengthIn bs), 10)
+    ∷ (ltb (length bs) (2 + lengthIn bs), 9)
+    ∷ kindChecks feed (kindIn bs) (lengthIn bs)
+
+-- the head of a record of a kind and a length, or the refusal of some checks
+unfoldable pub headUnless : List (Bool × ℕ) → ℕ → ℕ → Head
+headUnless checks kind size = unless (firstOf checks) refusedHead (Whole kind size)
+
+-- what stands first in the bytes that are left: nothing where none is
+unfoldable pub headOf : Feed → List ℕ → Head
+headOf feed bs = cond (eqb (length bs) 0) noHead (headUnless (headChecks feed bs) (kindIn bs) (lengthIn bs))
+
+-- Checks, continued: stream (1). A record at a place, with the place of the next.
+unfoldable pub foundAt : ℕ → Record → ℕ → Reading
+foundAt at found next = unless (firstOf ((not (streamKnown found), 1) ∷ [])) (λ (number : ℕ). Refused number at) (Found found next)
+
+-- the answer at a place to the head of the bytes that are left there
+abbrev pub readingOf : ℕ → List ℕ → Head → Reading
+readingOf at bs (Whole kind size) = foundAt at (recordIn kind size bs) (at + 2 + size)
+readingOf at bs (refusedHead number) = Refused number at
+readingOf at bs noHead = End
+
+-- a reading of an input feed at a place, by what is left of the feed there
+unfoldable pub readingFrom : ℕ → List ℕ → Reading
+readingFrom at bs = readingOf at bs (headOf Input bs)
+
+unfoldable pub reading : List ℕ → ℕ → Reading
+reading s at = readingFrom at (drop at s)
+
+-- a reading of an output feed
+abbrev pub pairReadingOf : ℕ → List ℕ → Head → PairReading
+pairReadingOf at bs (Whole kind size) = FoundPair (pairFrom (fieldsIn pair bs)) (at + 2 + size)
+pairReadingOf at bs (refusedHead number) = refusedPair number at
+pairReadingOf at bs noHead = noPair
+
+unfoldable pub pairReadingFrom : ℕ → List ℕ → PairReading
+pairReadingFrom at bs = pairReadingOf at bs (headOf Output bs)
+
+unfoldable pub pairReading : List ℕ → ℕ → PairReading
+pairReading s at = pairReadingFrom at (drop at s)

@@ -1,0 +1,4 @@
+pub mod Puts
+pub mod Writings
+pub mod RoundTrip
+pub mod Unique

@@ -1,0 +1,90 @@
+-- Written, then read; and read, then written, for all records and all feeds.
+use Prim.Native.Nat.{ℕ, _+_, _-_, _≤_}
+use native.Mathlib.Nat.{zero-add}
+use native.Mathlib.Omega.{arith}
+use mathlib.Core.Bool.{Bool, true, false, not}
+use mathlib.Core.List.{List, [], _∷_, _++_}
+use mathlib.Core.Path.{_≡_, refl, sym, ap, _∙_}
+use lib.Dec.{ltb}
+use lib.ListN.{length, drop, take}
+use borrow.Author.Tests.{ltb-false}
+use Rattle.pairing.specs.declared.Pair.{Pair}
+use Rattle.feed.specs.declared.PairReading.the-variants.{Found as FoundPair}
+use Rattle.feed.specs.declared.Reading.the-variants.{Found}
+use Rattle.feed.specs.declared.Record.{Record}
+use Rattle.feed_write.specs.declared.Writing.{Writing}
+use Rattle.feed_write.specs.declared.Writing.the-variants.{Written, Refused}
+use Rattle.feed.specs.Kind.{pair}
+use Rattle.feed.specs.Record.{pairNumbers, recordBytes, pairBytes, streamKnown}
+use Rattle.feed.specs.Check.{firstOf, unless}
+use Rattle.feed.specs.Reading.{reading, pairReading}
+use Rattle.feed_write.specs.Put.{put}
+use Rattle.feed_write.specs.Writing.{writing, recordWriting, pairWriting}
+use Rattle.feed.proofs.Numbers.{Bytes}
+use Rattle.feed.proofs.Fields.{Room}
+use Rattle.feed_write.proofs.Writings.{record-written, pair-written}
+use Rattle.feed.proofs.WriteRead.{Fitting, record-reads-in, pair-reads-in}
+use Rattle.feed.proofs.ReadWrite.{textBytes, record-back, pair-back, found-stream, text-short, found-length, pair-found-length}
+use Rattle.feed_write.proofs.Puts.{put-first}
+
+-- ---- written, then read: what a writing left in the buffer is read back from its start, with the place after it
+
+not-written : {number size : ℕ} {buf left : List ℕ} → _≡_ {A = Writing × List ℕ} (Refused number, buf) (Written size, left) → ⊥
+not-written e = let f = ap (λ (x : Writing × List ℕ). x .0) e in let z : _≡_ {A = ℕ} 0 1 = cc in omega arith
+
+pub written-reads : (r : Record) (text buf : List ℕ) {size : ℕ} {left : List ℕ} → Fitting r text → recordWriting r text buf ≡ (Written size, left) → reading left 0 ≡ Found r size
+unfolding recordWriting writing
+written-reads r text buf {size} {left} fit h = go (streamKnown r) (ltb 64 (length text)) (ltb (length buf) (length (recordBytes r text))) refl refl h
+  where
+    go : (known long short : Bool) → streamKnown r ≡ known → ltb 64 (length text) ≡ long
+        → _≡_ {A = Writing × List ℕ} (unless (firstOf ((not known, 1) ∷ (long, 10) ∷ (short, 12) ∷ [])) (λ (number : ℕ). (Refused number, buf)) (Written (length (recordBytes r text)), recordBytes r text ++ drop (length (recordBytes r text)) buf)) (Written size, left)
+        → reading left 0 ≡ Found r size
+    go false long short k l e = absurd (not-written e)
+    go true true short k l e = absurd (not-written e)
+    go true false true k l e = absurd (not-written e)
+    go true false false k l e =
+        let answer : Written (length (recordBytes r text)) ≡ Written size = ap (λ (x : Writing × List ℕ). x .0) e in
+        let same : length (recordBytes r text) ≡ size = cc in
+        ap (λ (l : List ℕ). reading l 0) (sym (ap (λ (x : Writing × List ℕ). x .1) e))
+        ∙ record-reads-in r text [] (drop (length (recordBytes r text)) buf) fit k (ltb-false 64 (length text) l)
+        ∙ ap (Found r) (zero-add (length (recordBytes r text)) ∙ same)
+
+pub pair-written-reads : (p : Pair) (buf : List ℕ) {size : ℕ} {left : List ℕ} → Room (pair .fields) (pairNumbers p) → pairWriting p buf ≡ (Written size, left) → pairReading left 0 ≡ FoundPair p size
+unfolding pairWriting writing
+pair-written-reads p buf {size} {left} fit h = go (ltb (length buf) (length (pairBytes p))) h
+  where
+    go : (short : Bool) → _≡_ {A = Writing × List ℕ} (unless (firstOf ((short, 12) ∷ [])) (λ (number : ℕ). (Refused number, buf)) (Written (length (pairBytes p)), pairBytes p ++ drop (length (pairBytes p)) buf)) (Written size, left)
+        → pairReading left 0 ≡ FoundPair p size
+    go true e = absurd (not-written e)
+    go false e =
+        let answer : Written (length (pairBytes p)) ≡ Written size = ap (λ (x : Writing × List ℕ). x .0) e in
+        let same : length (pairBytes p) ≡ size = cc in
+        ap (λ (l : List ℕ). pairReading l 0) (sym (ap (λ (x : Writing × List ℕ). x .1) e))
+        ∙ pair-reads-in p [] (drop (length (pairBytes p)) buf) fit
+        ∙ ap (FoundPair p) (zero-add (length (pairBytes p)) ∙ same)
+
+-- ---- read, then written: into a buffer with room, the answer is the record's length, and its bytes stand at the buffer's start
+
+module _ (buf bs front : List ℕ) (size : ℕ) (same : bs ≡ front) (long : length front ≡ size) where
+  left-same : _≡_ {A = Writing × List ℕ} (Written (length bs), put 0 bs buf) (Written size, front ++ drop size buf)
+  left-same =
+      ap (λ (l : List ℕ). (Written (length bs), l)) (put-first bs buf)
+      ∙ ap (λ (l : List ℕ). (Written (length l), l ++ drop (length l) buf)) same
+      ∙ ap (λ (m : ℕ). (Written m, front ++ drop m buf)) long
+
+pub read-writes : (s : List ℕ) (at : ℕ) (buf : List ℕ) {r : Record} {next : ℕ} → Bytes s → reading s at ≡ Found r next → next - at ≤ length buf
+    → recordWriting r (textBytes s at) buf ≡ (Written (next - at), take (next - at) (drop at s) ++ drop (next - at) buf)
+read-writes s at buf {r} {next} b h room =
+    let same = record-back s at b h in
+    let long = found-length s at h in
+    let fits : length (recordBytes r (textBytes s at)) ≤ length buf = rw (same, long) room in
+    record-written r (textBytes s at) buf (found-stream s at h) (text-short s at b h) fits
+    ∙ left-same buf (recordBytes r (textBytes s at)) (take (next - at) (drop at s)) (next - at) same long
+
+pub pair-read-writes : (s : List ℕ) (at : ℕ) (buf : List ℕ) {p : Pair} {next : ℕ} → Bytes s → pairReading s at ≡ FoundPair p next → next - at ≤ length buf
+    → pairWriting p buf ≡ (Written (next - at), take (next - at) (drop at s) ++ drop (next - at) buf)
+pair-read-writes s at buf {p} {next} b h room =
+    let same = pair-back s at b h in
+    let long = pair-found-length s at h in
+    let fits : length (pairBytes p) ≤ length buf = rw (same, long) room in
+    pair-written p buf fits ∙ left-same buf (pairBytes p) (take (next - at) (drop at s)) (next - at) same long
