@@ -1,7 +1,10 @@
 -- Laws of the pairing test, of the pair and of the order of pairs. Nothing above this file looks into `fits`, `pairs`, `pairOf` or `comesBefore`.
-use Prim.Native.Nat.{ℕ, _<_, _≤_}
+use Prim.Native.Nat.{ℕ, _-_, _<_, _≤_, min, max}
+use native.Mathlib.Omega.{arith}
 use mathlib.Core.Bool.{Bool, true, false, _&&_, and-false}
 use mathlib.Core.Path.{_≡_, refl, sym, ap, _∙_}
+use lib.Dec.{leb, eqb}
+use borrow.Author.Tests.{eqb-true, eq-eqb}
 use Rattle.interval.specs.declared.Interval.{Interval}
 use Rattle.interval.specs.Interval.{holdsAt, properOf, meetingOf}
 use Rattle.interval.proofs.Laws.{holds-proper, meeting-holds, meeting-comm, meeting-start, meeting-ended}
@@ -11,7 +14,8 @@ use Rattle.pairing.specs.declared.Entry.{Entry}
 use Rattle.pairing.specs.declared.Numbered.{Numbered}
 use Rattle.pairing.specs.declared.Pair.{Pair}
 use Rattle.pairing.specs.declared.Rule.{Rule}
-use Rattle.pairing.specs.Rule.{fits}
+use Rattle.pairing.specs.declared.Rule.the-variants.{Equal, Near, Every}
+use Rattle.pairing.specs.Rule.{distance, fits}
 use Rattle.pairing.specs.Pair.{pairs, partnerOf, pairOf, comesBefore}
 use Rattle.pairing.specs.Plain.{matchAt}
 
@@ -40,6 +44,11 @@ module _ (rule : Rule) (a b : Entry) where
   pub pairs-ended-b : b .span .end ≤ a .span .start → pairs rule a b ≡ false
   pairs-ended-b h = pairs-apart (ap properOf (meeting-comm (a .span) (b .span)) ∙ meeting-ended (b .span) (a .span) h)
 
+  -- an improper entry pairs with nothing
+  pub pairs-improper : properOf (b .span) ≡ false → pairs rule a b ≡ false
+  unfolding pairs
+  pairs-improper h = rw (h, and-false (properOf (a .span)))
+
   -- at an instant of their meeting, to pair is to hold then and to match
   pub pairs-at : (t : ℕ) → pairs rule a b && holdsAt t met ≡ matchAt t rule a b
   unfolding pairs matchAt
@@ -64,6 +73,23 @@ module _ (rule : Rule) (a b : Entry) where
             and-right (holdsAt t (b .span)) (fits rule (a .key) (b .key)) rest,
             at-met,
           )
+
+-- to pair is the same either way round
+fits-comm : (rule : Rule) (key other : ℕ) → fits rule key other ≡ fits rule other key
+unfolding fits distance
+fits-comm Equal key other = bool-ext (eqb key other) (eqb other key) (λ e. eq-eqb other key (sym (eqb-true key other e))) (λ e. eq-eqb key other (sym (eqb-true other key e)))
+fits-comm (Near width) key other =
+    let same : max key other - min key other ≡ max other key - min other key = omega arith in
+    ap (λ (d : ℕ). leb d width) same
+fits-comm Every key other = refl
+
+pub pairs-comm : (rule : Rule) (a b : Entry) → pairs rule a b ≡ pairs rule b a
+unfolding pairs
+pairs-comm rule a b = rw (meeting-comm (a .span) (b .span), fits-comm rule (a .key) (b .key)) (swap (properOf (a .span)) (properOf (b .span)) _)
+  where
+    swap : (p q r : Bool) → p && (q && r) ≡ q && (p && r)
+    swap true q r = refl
+    swap false q r = sym (and-false q)
 
 -- ---- the pair
 
