@@ -27,24 +27,9 @@ use Rattle.area.specs.declared.Area.{Area}
 use Rattle.area.specs.Area.{heldIn, places, held, partners}
 use Rattle.lent.specs.Counted.{answered, counted, entriesOf}
 
--- ---- the mark
-
-module _ (time : ℕ) (journal : Journal) where
-  -- an accepted mark moves the clock and nothing else
-  mark-moves : marked time journal .answer ≡ Accepted → marked time journal .journal ≡ moved (Open time) journal
-  mark-moves e = ap (λ (answer : Answer). unlessRefused answer (moved (Open time) journal) journal) e
-
-  -- a refused one leaves the record equal
-  mark-leaves : (number : ℕ) → marked time journal .answer ≡ Refused number → marked time journal .journal ≡ journal
-  mark-leaves number e = ap (λ (answer : Answer). unlessRefused answer (moved (Open time) journal) journal) e
-
 -- ---- the count
 
--- it is the same whichever journal the run is of
-counted-comm : (rule : Rule) (given : Entry) (run : List Entry) → counted rule given run ≡ answered given (length (keep (λ (e : Entry). pairs rule e given) run))
-counted-comm rule given run = ap (λ (test : Entry → Bool). answered given (length (keep test run))) (λ i e. pairs-comm rule given e i)
-
--- an improper entry in the run pairs with nothing: the count is that of the proper ones
+-- what fails q fails p, so that it may be left out first
 keep-keep : {A : Type 0} (p q : A → Bool) → ((x : A) → q x ≡ false → p x ≡ false) → (xs : List A) → keep p (keep q xs) ≡ keep p xs
 keep-keep p q h [] = refl
 keep-keep p q h (x ∷ xs) = go (q x) refl (keep-keep p q h xs)
@@ -53,11 +38,16 @@ keep-keep p q h (x ∷ xs) = go (q x) refl (keep-keep p q h xs)
     go true e rest = rw rest
     go false e rest = rw (h x e) rest
 
-counted-proper : (rule : Rule) (given : Entry) (run : List Entry) → counted rule given (keep (λ (e : Entry). properOf (e .span)) run) ≡ counted rule given run
+-- an improper entry in the run pairs with nothing: the count is that of the proper ones
+pub counted-proper : (rule : Rule) (given : Entry) (run : List Entry) → counted rule given (keep (λ (e : Entry). properOf (e .span)) run) ≡ counted rule given run
 counted-proper rule given run =
     ap (λ (l : List Entry). answered given (length l)) (keep-keep (pairs rule given) (λ (e : Entry). properOf (e .span)) (λ e h. pairs-improper rule given e h) run)
 
--- ---- as it goes
+-- it is the same whichever journal the run is of
+pub counted-comm : (rule : Rule) (given : Entry) (run : List Entry) → counted rule given run ≡ answered given (length (keep (λ (e : Entry). pairs rule e given) run))
+counted-comm rule given run = ap (λ (test : Entry → Bool). answered given (length (keep test run))) (λ i e. pairs-comm rule given e i)
+
+-- ---- the count as it goes
 
 module _ (rule : Rule) (given : Entry) (run : List Entry) where
   -- what is found among the first i
@@ -76,10 +66,10 @@ module _ (rule : Rule) (given : Entry) (run : List Entry) where
   pub found-all : (i : ℕ) → length run ≤ i → found i ≡ length (keep (pairs rule given) run)
   found-all i h = ap (λ (l : List Entry). length (keep (pairs rule given) l)) (take-all i run h)
 
--- ---- over an area's held entries
+-- ---- the count over what an area holds
 
--- it is how many the area itself finds
-counted-held : (rule : Rule) (given : Entry) (xs : List Numbered) → counted rule given (entriesOf xs) ≡ answered given (length (partners rule given xs))
+-- the count is the one that the area itself makes
+pub counted-held : (rule : Rule) (given : Entry) (xs : List Numbered) → counted rule given (entriesOf xs) ≡ answered given (length (partners rule given xs))
 counted-held rule given xs =
     let entryOf : Numbered → Entry = λ x. x .entry in
     ap (answered given) (ap length (keep-map (pairs rule given) entryOf xs) ∙ length-map (partners rule given xs) entryOf)
@@ -89,9 +79,20 @@ take-min zero l = ap (λ (m : ℕ). take m l) (zero-min (length l))
 take-min (suc n) [] = ap (λ (m : ℕ). take m []) (min-zero (suc n))
 take-min (suc n) (x ∷ l) = ap (λ (m : ℕ). take m (x ∷ l)) (suc-min-suc n (length l)) ∙ ap (λ r. x ∷ r) (take-min n l)
 
--- also where its count is beyond its places: then it holds what is in all of them
+-- also where the area's count is beyond its places: it then holds what is in all of them
 pub counted-within : (rule : Rule) (given : Entry) (area : Area) (rows : Rows) (n : ℕ) → length rows ≡ places → n ≡ min (area .count) places
     → answered given (length (partners rule given (held (record { count = n }) rows))) ≡ counted rule given (entriesOf (held area rows))
 counted-within rule given area rows n full e =
     let same : take n rows ≡ take (area .count) rows = ap (λ (k : ℕ). take k rows) (e ∙ ap (min (area .count)) (sym full)) ∙ take-min (area .count) rows in
     ap (λ (l : Rows). answered given (length (partners rule given (map heldIn l)))) same ∙ sym (counted-held rule given (held area rows))
+
+-- ---- the mark
+
+module _ (time : ℕ) (journal : Journal) where
+  -- an accepted mark moves the clock and nothing else
+  pub mark-moves : marked time journal .answer ≡ Accepted → marked time journal .journal ≡ moved (Open time) journal
+  mark-moves e = ap (λ (answer : Answer). unlessRefused answer (moved (Open time) journal) journal) e
+
+  -- a refused one leaves the record equal
+  pub mark-leaves : (number : ℕ) → marked time journal .answer ≡ Refused number → marked time journal .journal ≡ journal
+  mark-leaves number e = ap (λ (answer : Answer). unlessRefused answer (moved (Open time) journal) journal) e

@@ -27,6 +27,42 @@ use denote.Triple.Spec.{Spec, tripleOf}
 use denote.Triple.Clauses.{Ended, Lasts, lasts}
 use denote.Triple.Walked.{says}
 
+-- ---- a local
+
+-- one that holds a value, and one that holds nothing
+abbrev pub full : {M : Type 1} {𝓤 : URA M} → Ty → ℕ → Val → List (Item 𝓤) → List (Item 𝓤)
+full τ l v Γ = ‵ (fat fullShare τ l zero v) ∷ ‵ (fdies τ l) ∷ Γ
+
+abbrev pub empty : {M : Type 1} {𝓤 : URA M} → Ty → ℕ → List (Item 𝓤) → List (Item 𝓤)
+empty τ l Γ = ‵ (froom τ l zero) ∷ ‵ (fdies τ l) ∷ Γ
+
+module _ {M : Type 1} {𝓤 : URA M} {H : Heap 𝓤} {A : Atoms 𝓤} {K : Type 0} {W : Given 𝓤 H A} {Γ : List (Item 𝓤)} where
+  module _ {E : Env 𝓤 H} where
+    -- the one at n is read
+    pub var : K → (n : ℕ) {i : ℕ} {p : Share} {v : Val} → nth 𝓤 H A n Γ ≡ ‵ (fat p (spotOf 𝓤 H E i .0) (spotOf 𝓤 H E i .1) zero v) → Opd K W Γ E (copy (place i [])) v
+    var t n e = load t (from t (stop t)) (look t n e)
+
+    -- it is set, and the rest runs
+    pub sets : K → {C : Calls 𝓤 H} {Λ : Loops 𝓤 H} {q : Post 𝓤 H} {i : ℕ} {r : RValue} {rest : Body} {v : Val} {Γ′ : List (Item 𝓤)}
+        → Rv K W Γ E r v → Writes K W Γ (spotOf 𝓤 H E i .0) (spotOf 𝓤 H E i .1) zero v Γ′ → Step K W Γ′ (runs C Λ E rest q) Γ (runs C Λ E (seq (assign (place i []) r) rest) q)
+    sets t r w = assigns t r (from t (stop t)) w
+
+  -- what stands at n is fetched to the front
+  fetch : K → (n : ℕ) {G : Goal 𝓤 H} → Step K W (nth 𝓤 H A n Γ ∷ del 𝓤 H A n Γ) G Γ G
+  fetch t n = step (λ s. record { prf = via 𝓤 _ (pull 𝓤 H A n Γ) (via 𝓤 _ (push 𝓤 H A (nth 𝓤 H A n Γ) (del 𝓤 H A n Γ)) (s .prf)) })
+
+module _ {M : Type 1} {𝓤 : URA M} {H : Heap 𝓤} {A : Atoms 𝓤} {K : Type 0} {W : Given 𝓤 H A} {Γ : List (Item 𝓤)} where
+  -- the one at n is freed
+  pub frees-empty : K → (n : ℕ) {τ : Ty} {l : ℕ} {E : Env 𝓤 H} {g : Goal 𝓤 H} → nth 𝓤 H A n Γ ≡ ‵ (froom τ l zero) → nth 𝓤 H A n (del 𝓤 H A n Γ) ≡ ‵ (fdies τ l)
+      → Step K W (del 𝓤 H A n (del 𝓤 H A n Γ)) (frees E g) Γ (frees ((τ, l) ∷ E) g)
+  frees-empty t n {τ} {l} e d = step (λ s.
+      fetch t n $ recast W (‵ (froom τ l zero)) (ap (mean 𝓤 H A) e) $ fetch t (suc n) $ recast W (‵ (fdies τ l)) (ap (mean 𝓤 H A) d) $ move t (1 ∷ 0 ∷ []) $ free1 t $ s)
+
+  pub frees-full : K → (n : ℕ) {τ : Ty} {l : ℕ} {v : Val} {E : Env 𝓤 H} {g : Goal 𝓤 H} → nth 𝓤 H A n Γ ≡ ‵ (fat fullShare τ l zero v) → nth 𝓤 H A n (del 𝓤 H A n Γ) ≡ ‵ (fdies τ l)
+      → Step K W (del 𝓤 H A n (del 𝓤 H A n Γ)) (frees E g) Γ (frees ((τ, l) ∷ E) g)
+  frees-full t n {τ} {l} {v} e d = step (λ s.
+      fetch t n $ recast W (‵ (fat fullShare τ l zero v)) (ap (mean 𝓤 H A) e) $ forget t 0 refl $ fetch t (suc n) $ recast W (‵ (fdies τ l)) (ap (mean 𝓤 H A) d) $ move t (1 ∷ 0 ∷ []) $ free1 t $ s)
+
 -- ---- a call of a function of plain data, whose contract requires nothing and states a fact of its result
 
 module _ {M : Type 1} (𝓤 : URA M) (H : Heap 𝓤) (A : Atoms 𝓤) (F : Ended) (s : Spec 𝓤 (F .signature)) where
@@ -65,20 +101,9 @@ module _ {M : Type 1} {𝓤 : URA M} {H : Heap 𝓤} {A : Atoms 𝓤} {K : Type 
       calls-at t fm (Called 𝓤 H A F s) known x operands (λ u. use1 W (Left 𝓤 H A F s x φ u) (post u) $ await t tt $
       pick t (λ r. split t $ split t $ drop t $ facts t R (Is R) (shows 𝓤 H A R) r (u ∷ []) (λ g. pick t (λ ws. split t $ drop t $ heard t (φ r) (λ e. k u r e g)))))
 
-  -- ---- a local
+-- ---- a branch
 
-  module _ {E : Env 𝓤 H} where
-    -- the one at n is read
-    pub var : K → (n : ℕ) {i : ℕ} {p : Share} {v : Val} → nth 𝓤 H A n Γ ≡ ‵ (fat p (spotOf 𝓤 H E i .0) (spotOf 𝓤 H E i .1) zero v) → Opd K W Γ E (copy (place i [])) v
-    var t n e = load t (from t (stop t)) (look t n e)
-
-    -- it is set, and the rest runs
-    pub sets : K → {C : Calls 𝓤 H} {Λ : Loops 𝓤 H} {q : Post 𝓤 H} {i : ℕ} {r : RValue} {rest : Body} {v : Val} {Γ′ : List (Item 𝓤)}
-        → Rv K W Γ E r v → Writes K W Γ (spotOf 𝓤 H E i .0) (spotOf 𝓤 H E i .1) zero v Γ′ → Step K W Γ′ (runs C Λ E rest q) Γ (runs C Λ E (seq (assign (place i []) r) rest) q)
-    sets t r w = assigns t r (from t (stop t)) w
-
-  -- ---- a branch
-
+module _ {M : Type 1} {𝓤 : URA M} {H : Heap 𝓤} {A : Atoms 𝓤} {K : Type 0} {W : Given 𝓤 H A} {Γ : List (Item 𝓤)} where
   module _ {E : Env 𝓤 H} {C : Calls 𝓤 H} {Λ : Loops 𝓤 H} {q : Post 𝓤 H} {rest : Body} where
     -- each arm goes on with the rest
     pub forks : K → {c : Operand} {a b : Body} {y : Bool} → Opd K W Γ E c (vbool y)
@@ -89,33 +114,9 @@ module _ {M : Type 1} {𝓤 : URA M} {H : Heap 𝓤} {A : Atoms 𝓤} {K : Type 
     pub goes-on : K → Step K W Γ (runs C Λ E rest q) Γ (runs C Λ E (seq skip rest) q)
     goes-on t = step (λ s. first t $ skips t $ exec t C Λ E rest q $ s)
 
-  -- what stands at n is fetched to the front
-  fetch : K → (n : ℕ) {G : Goal 𝓤 H} → Step K W (nth 𝓤 H A n Γ ∷ del 𝓤 H A n Γ) G Γ G
-  fetch t n = step (λ s. record { prf = via 𝓤 _ (pull 𝓤 H A n Γ) (via 𝓤 _ (push 𝓤 H A (nth 𝓤 H A n Γ) (del 𝓤 H A n Γ)) (s .prf)) })
-
--- ---- locals
-
--- one that holds a value, and one that holds nothing
-abbrev pub full : {M : Type 1} {𝓤 : URA M} → Ty → ℕ → Val → List (Item 𝓤) → List (Item 𝓤)
-full τ l v Γ = ‵ (fat fullShare τ l zero v) ∷ ‵ (fdies τ l) ∷ Γ
-
-abbrev pub empty : {M : Type 1} {𝓤 : URA M} → Ty → ℕ → List (Item 𝓤) → List (Item 𝓤)
-empty τ l Γ = ‵ (froom τ l zero) ∷ ‵ (fdies τ l) ∷ Γ
+-- ---- the exit
 
 module _ {M : Type 1} {𝓤 : URA M} {H : Heap 𝓤} {A : Atoms 𝓤} {K : Type 0} {W : Given 𝓤 H A} {Γ : List (Item 𝓤)} where
-  -- the one at n is freed
-  pub frees-empty : K → (n : ℕ) {τ : Ty} {l : ℕ} {E : Env 𝓤 H} {g : Goal 𝓤 H} → nth 𝓤 H A n Γ ≡ ‵ (froom τ l zero) → nth 𝓤 H A n (del 𝓤 H A n Γ) ≡ ‵ (fdies τ l)
-      → Step K W (del 𝓤 H A n (del 𝓤 H A n Γ)) (frees E g) Γ (frees ((τ, l) ∷ E) g)
-  frees-empty t n {τ} {l} e d = step (λ s.
-      fetch t n $ recast W (‵ (froom τ l zero)) (ap (mean 𝓤 H A) e) $ fetch t (suc n) $ recast W (‵ (fdies τ l)) (ap (mean 𝓤 H A) d) $ move t (1 ∷ 0 ∷ []) $ free1 t $ s)
-
-  pub frees-full : K → (n : ℕ) {τ : Ty} {l : ℕ} {v : Val} {E : Env 𝓤 H} {g : Goal 𝓤 H} → nth 𝓤 H A n Γ ≡ ‵ (fat fullShare τ l zero v) → nth 𝓤 H A n (del 𝓤 H A n Γ) ≡ ‵ (fdies τ l)
-      → Step K W (del 𝓤 H A n (del 𝓤 H A n Γ)) (frees E g) Γ (frees ((τ, l) ∷ E) g)
-  frees-full t n {τ} {l} {v} e d = step (λ s.
-      fetch t n $ recast W (‵ (fat fullShare τ l zero v)) (ap (mean 𝓤 H A) e) $ forget t 0 refl $ fetch t (suc n) $ recast W (‵ (fdies τ l)) (ap (mean 𝓤 H A) d) $ move t (1 ∷ 0 ∷ []) $ free1 t $ s)
-
-  -- ---- the exit
-
   -- two facts that a contract ensures
   pub says-both : K → {φ ψ : Type 0} {P : SProp 𝓤} → φ → ψ → Step K W Γ (prop P) Γ (prop (sep 𝓤 P (sep 𝓤 (fact 𝓤 φ) (fact 𝓤 ψ))))
   says-both t {φ} {ψ} {P} x y = step (λ s. record { prf = via 𝓤 _ ((says t y $ says t x $ s) .prf) (assoc∗ 𝓤 P (fact 𝓤 φ) (fact 𝓤 ψ)) })

@@ -12,14 +12,14 @@ use Rattle.pairing.specs.Pair.{pairs}
 use Rattle.lent.specs.declared.Counted.{Counted}
 use Rattle.lent.specs.declared.Counted.the-variants.{Partners, Refused}
 
--- 3: start not below end, of the given entry. Else how many were found.
+-- An improper given one is refused with 3. Else the answer is how many were found.
 abbrev pub answered : Entry → ℕ → Counted
 answered given found = cond (properOf (given .span)) (Partners found) (Refused 3)
 
--- How many of them pair with one given entry of the other journal; an improper given one is refused with 3.
+-- How many of them pair with one given entry of the other journal. An improper one in the run pairs with nothing: `pairs` says so.
 abbrev pub counted : Rule → Entry → List Entry → Counted
 counted rule given run = answered given (length (keep (pairs rule given) run))
 
--- entries without their ordinals, as an area's held ones are a run
+-- what an area holds is a run, once the ordinals are left out
 abbrev pub entriesOf : List Numbered → List Entry
 entriesOf xs = map (λ (x : Numbered). x .entry) xs

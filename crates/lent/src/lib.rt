@@ -55,7 +55,7 @@ fn within(count: usize) -> usize
     }
 }
 
-// The same over what an area holds, with its places by value.
+// The same count over what an area holds, with its places by value.
 pub fn held_count(area: Area, rows: Places, rule: Rule, given: Entry) -> Counted
     ensures { λ r. ⌜ r ≡ counted rule given (entriesOf (held area rows)) ⌝ }
 {
