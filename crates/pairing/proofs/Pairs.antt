@@ -44,6 +44,11 @@ module _ (rule : Rule) (a b : Entry) where
   pub pairs-ended-b : b .span .end ≤ a .span .start → pairs rule a b ≡ false
   pairs-ended-b h = pairs-apart (ap properOf (meeting-comm (a .span) (b .span)) ∙ meeting-ended (b .span) (a .span) h)
 
+  -- an improper entry pairs with nothing
+  pub pairs-improper : properOf (b .span) ≡ false → pairs rule a b ≡ false
+  unfolding pairs
+  pairs-improper h = rw (h, and-false (properOf (a .span)))
+
   -- at an instant of their meeting, to pair is to hold then and to match
   pub pairs-at : (t : ℕ) → pairs rule a b && holdsAt t met ≡ matchAt t rule a b
   unfolding pairs matchAt

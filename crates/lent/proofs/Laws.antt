@@ -1,0 +1,98 @@
+-- Laws of the two services.
+use Prim.Native.Nat.{ℕ, zero, suc, _+_, _≤_, _<_, min}
+use native.Mathlib.Nat.{zero-min, min-zero, suc-min-suc}
+use mathlib.Core.Bool.{Bool, true, false, not, cond}
+use mathlib.Core.List.{List, [], _∷_, map}
+use mathlib.Core.Path.{_≡_, refl, sym, ap, _∙_}
+use lib.Dec.{T as Holds}
+use lib.Ieee.Bits.{is-true, is-false}
+use lib.ListN.{length, take, getD, length-append, length-map}
+use lib.Seq.{take-all}
+use Rattle.interval.specs.Interval.{properOf}
+use Rattle.lists.specs.Keep.{keep}
+use Rattle.lists.specs.Store.{Rows}
+use Rattle.lists.proofs.Keep.{keep-more, keep-same, keep-bound, keep-map}
+use Rattle.pairing.specs.declared.Entry.{Entry}
+use Rattle.pairing.specs.declared.Numbered.{Numbered}
+use Rattle.pairing.specs.declared.Rule.{Rule}
+use Rattle.pairing.specs.Pair.{pairs}
+use Rattle.pairing.proofs.Pairs.{pairs-comm, pairs-improper}
+use Rattle.journal.specs.declared.Answer.{Answer}
+use Rattle.journal.specs.declared.Answer.the-variants.{Accepted, Refused}
+use Rattle.journal.specs.declared.Gate.the-variants.{Open}
+use Rattle.journal.specs.declared.Journal.{Journal}
+use Rattle.journal.specs.Answer.{unlessRefused}
+use Rattle.journal.specs.Journal.{moved, marked}
+use Rattle.area.specs.declared.Area.{Area}
+use Rattle.area.specs.Area.{heldIn, places, held, partners}
+use Rattle.lent.specs.Counted.{answered, counted, entriesOf}
+
+-- ---- the count
+
+-- what fails q fails p, so that it may be left out first
+keep-keep : {A : Type 0} (p q : A → Bool) → ((x : A) → q x ≡ false → p x ≡ false) → (xs : List A) → keep p (keep q xs) ≡ keep p xs
+keep-keep p q h [] = refl
+keep-keep p q h (x ∷ xs) = go (q x) refl (keep-keep p q h xs)
+  where
+    go : (b : Bool) → q x ≡ b → keep p (keep q xs) ≡ keep p xs → keep p (cond b (x ∷ keep q xs) (keep q xs)) ≡ cond (p x) (x ∷ keep p xs) (keep p xs)
+    go true e rest = rw rest
+    go false e rest = rw (h x e) rest
+
+-- an improper entry in the run pairs with nothing: the count is that of the proper ones
+pub counted-proper : (rule : Rule) (given : Entry) (run : List Entry) → counted rule given (keep (λ (e : Entry). properOf (e .span)) run) ≡ counted rule given run
+counted-proper rule given run =
+    ap (λ (l : List Entry). answered given (length l)) (keep-keep (pairs rule given) (λ (e : Entry). properOf (e .span)) (λ e h. pairs-improper rule given e h) run)
+
+-- it is the same whichever journal the run is of
+pub counted-comm : (rule : Rule) (given : Entry) (run : List Entry) → counted rule given run ≡ answered given (length (keep (λ (e : Entry). pairs rule e given) run))
+counted-comm rule given run = ap (λ (test : Entry → Bool). answered given (length (keep test run))) (λ i e. pairs-comm rule given e i)
+
+-- ---- the count as it goes
+
+module _ (rule : Rule) (given : Entry) (run : List Entry) where
+  -- what is found among the first i
+  abbrev pub found : ℕ → ℕ
+  found i = length (keep (pairs rule given) (take i run))
+
+  pub found-more : (i : ℕ) (d : Entry) → i < length run → Holds (pairs rule given (getD run i d)) → found i + 1 ≡ found (i + 1)
+  found-more i d h t = sym (ap length (keep-more (pairs rule given) run i d h (is-true _ t)) ∙ length-append (keep (pairs rule given) (take i run)) (getD run i d ∷ []))
+
+  pub found-same : (i : ℕ) (d : Entry) → i < length run → Holds (not (pairs rule given (getD run i d))) → found i ≡ found (i + 1)
+  found-same i d h t = ap length (sym (keep-same (pairs rule given) run i d h (is-false _ t)))
+
+  pub found-few : (i : ℕ) → found i ≤ i
+  found-few i = keep-bound (pairs rule given) run i
+
+  pub found-all : (i : ℕ) → length run ≤ i → found i ≡ length (keep (pairs rule given) run)
+  found-all i h = ap (λ (l : List Entry). length (keep (pairs rule given) l)) (take-all i run h)
+
+-- ---- the count over what an area holds
+
+-- the count is the one that the area itself makes
+pub counted-held : (rule : Rule) (given : Entry) (xs : List Numbered) → counted rule given (entriesOf xs) ≡ answered given (length (partners rule given xs))
+counted-held rule given xs =
+    let entryOf : Numbered → Entry = λ x. x .entry in
+    ap (answered given) (ap length (keep-map (pairs rule given) entryOf xs) ∙ length-map (partners rule given xs) entryOf)
+
+take-min : {A : Type 0} (n : ℕ) (l : List A) → take (min n (length l)) l ≡ take n l
+take-min zero l = ap (λ (m : ℕ). take m l) (zero-min (length l))
+take-min (suc n) [] = ap (λ (m : ℕ). take m []) (min-zero (suc n))
+take-min (suc n) (x ∷ l) = ap (λ (m : ℕ). take m (x ∷ l)) (suc-min-suc n (length l)) ∙ ap (λ r. x ∷ r) (take-min n l)
+
+-- also where the area's count is beyond its places: it then holds what is in all of them
+pub counted-within : (rule : Rule) (given : Entry) (area : Area) (rows : Rows) (n : ℕ) → length rows ≡ places → n ≡ min (area .count) places
+    → answered given (length (partners rule given (held (record { count = n }) rows))) ≡ counted rule given (entriesOf (held area rows))
+counted-within rule given area rows n full e =
+    let same : take n rows ≡ take (area .count) rows = ap (λ (k : ℕ). take k rows) (e ∙ ap (min (area .count)) (sym full)) ∙ take-min (area .count) rows in
+    ap (λ (l : Rows). answered given (length (partners rule given (map heldIn l)))) same ∙ sym (counted-held rule given (held area rows))
+
+-- ---- the mark
+
+module _ (time : ℕ) (journal : Journal) where
+  -- an accepted mark moves the clock and nothing else
+  pub mark-moves : marked time journal .answer ≡ Accepted → marked time journal .journal ≡ moved (Open time) journal
+  mark-moves e = ap (λ (answer : Answer). unlessRefused answer (moved (Open time) journal) journal) e
+
+  -- a refused one leaves the record equal
+  pub mark-leaves : (number : ℕ) → marked time journal .answer ≡ Refused number → marked time journal .journal ≡ journal
+  mark-leaves number e = ap (λ (answer : Answer). unlessRefused answer (moved (Open time) journal) journal) e
