@@ -1,0 +1,129 @@
+//! A second program for the journal join: a slow, literal reading of the rules
+//! (document 01), which shares nothing with the first and which joinfeed is
+//! compared with on many feeds. It also makes those feeds, and turns text lines
+//! into a feed and a feed into text lines.
+
+#[cfg(test)]
+mod bench;
+mod bundle;
+mod chance;
+mod count;
+mod joinfeed;
+mod make;
+mod records;
+mod refusal;
+mod rules;
+mod text;
+
+use std::io::{self, Read, Write};
+use std::process::ExitCode;
+
+const USAGE: &str = "\
+second join              a feed -> what joinfeed must print of it
+second feed              text lines -> a feed
+second text              a feed -> text lines
+second make SEED COUNT   a bundle of COUNT feeds made from SEED
+second joinall           a bundle -> what joinfeed must print of each of its feeds
+second count SEED COUNT  the feeds of `make SEED COUNT` by kind and by last line
+
+Feeds, text and bundles come from standard input and go to standard output.
+A text line is one of: entry A 10 50 7 100 (journal, start, end, key, value),
+mark B 30, close A, note some text, raw 08 00 02 (bytes), # a comment.
+";
+
+/// Why a command did not do its work, with what to do about it.
+enum Fault {
+    /// The command is not known, or its arguments are wrong.
+    Usage(String),
+    /// What it was given to work on is wrong.
+    Input(String),
+}
+
+fn main() -> ExitCode {
+    let arguments: Vec<String> = std::env::args_os()
+        .skip(1)
+        .map(|argument| argument.to_string_lossy().into_owned())
+        .collect();
+    let words: Vec<&str> = arguments.iter().map(String::as_str).collect();
+    match answer(&words).and_then(|output| put_out(&output)) {
+        Ok(()) => ExitCode::SUCCESS,
+        Err(Fault::Usage(told)) => {
+            eprint!("second: {told}\n\n{USAGE}");
+            ExitCode::from(2)
+        }
+        Err(Fault::Input(told)) => {
+            eprintln!("second: {told}");
+            ExitCode::FAILURE
+        }
+    }
+}
+
+/// What a command puts out.
+fn answer(words: &[&str]) -> Result<Vec<u8>, Fault> {
+    match words {
+        ["join"] => Ok(joinfeed::joinfeed(&input(joinfeed::READ_LIMIT)?).into_bytes()),
+        ["feed"] => text::feed_of_text(&all_input()?).map_err(Fault::Input),
+        ["text"] => Ok(text::text_of_feed(&all_input()?).into_bytes()),
+        ["make", seed, count] => {
+            let feeds: Vec<Vec<u8>> = make::feeds(number(seed)?, number(count)?)
+                .map(|(_, feed)| feed)
+                .collect();
+            Ok(bundle::bundle_of(feeds.iter().map(Vec::as_slice)))
+        }
+        ["joinall"] => {
+            let bundle = all_input()?;
+            let feeds = bundle::feeds_of(&bundle).map_err(Fault::Input)?;
+            let printed: String = feeds.into_iter().map(joinfeed::joinfeed).collect();
+            Ok(printed.into_bytes())
+        }
+        ["count", seed, count] => Ok(count::table(number(seed)?, number(count)?).into_bytes()),
+        ["help" | "--help" | "-h"] => Ok(USAGE.as_bytes().to_vec()),
+        [] => Err(usage("no command is given; give one of these")),
+        [command @ ("join" | "feed" | "text" | "joinall"), ..] => Err(usage(&format!(
+            "`{command}` takes no arguments; give it its input with <"
+        ))),
+        [command @ ("make" | "count"), ..] => Err(usage(&format!(
+            "`{command}` takes a seed and a count of feeds; write {command} 1 3000"
+        ))),
+        [command, ..] => Err(usage(&format!(
+            "`{command}` is no command; give one of these"
+        ))),
+    }
+}
+
+fn usage(told: &str) -> Fault {
+    Fault::Usage(told.to_string())
+}
+
+fn number(word: &str) -> Result<u64, Fault> {
+    word.parse().map_err(|_| {
+        usage(&format!(
+            "`{word}` is no whole number; give the seed and the count in digits, as 1 3000"
+        ))
+    })
+}
+
+fn all_input() -> Result<Vec<u8>, Fault> {
+    input(u64::MAX)
+}
+
+/// Standard input up to so many bytes.
+fn input(limit: u64) -> Result<Vec<u8>, Fault> {
+    let mut bytes = Vec::new();
+    match io::stdin().lock().take(limit).read_to_end(&mut bytes) {
+        Ok(_) => Ok(bytes),
+        Err(error) => Err(Fault::Input(format!(
+            "standard input cannot be read ({error}); give it a file or a pipe"
+        ))),
+    }
+}
+
+fn put_out(output: &[u8]) -> Result<(), Fault> {
+    let mut standard_output = io::stdout().lock();
+    let put = standard_output.write_all(output);
+    put.and_then(|()| standard_output.flush()).map_err(|error| {
+        Fault::Input(format!(
+            "standard output cannot be written ({error}); give it a file or a pipe that is read"
+        ))
+    })
+}
