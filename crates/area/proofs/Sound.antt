@@ -57,7 +57,7 @@ pub record SoundHeld (own : Journal) (other : Gate) (xs : List Numbered) : Type 
   pub sounds : All (SoundEntry own other) xs
   pub laters : Each Later xs
 
-follows-later : (x y : Numbered) → follows x y ≡ true → Later x y
+pub follows-later : (x y : Numbered) → follows x y ≡ true → Later x y
 follows-later x y e = (
   ltb-true (x .ordinal) (y .ordinal) (and-left (ltb (x .ordinal) (y .ordinal)) _ e),
   leb-true (x .entry .span .start) (y .entry .span .start) (and-right (ltb (x .ordinal) (y .ordinal)) _ e),
@@ -66,7 +66,7 @@ follows-later x y e = (
 later-follows : (x y : Numbered) → Later x y → follows x y ≡ true
 later-follows x y h = rw (lt-ltb (x .ordinal) (y .ordinal) (h .0), le-leb (x .entry .span .start) (y .entry .span .start) (h .1))
 
-follows-trans : (x y z : Numbered) → follows x y ≡ true → follows y z ≡ true → follows x z ≡ true
+pub follows-trans : (x y z : Numbered) → follows x y ≡ true → follows y z ≡ true → follows x z ≡ true
 follows-trans x y z e f =
     let h = follows-later x y e in
     let k = follows-later y z f in

@@ -26,9 +26,10 @@ use Rattle.join.specs.declared.Took.the-variants as took
 use Rattle.join.specs.State.{State, View, view, stateOf, sound}
 use Rattle.join.specs.Calls.{sideOf, arrival, formed, afterEntry, afterMove, entryCall, markCall, closeCall, takeCall, takeOn, waitingIn, readyIn, bothClosed, nextOf, without, afterTake}
 use Rattle.demands.specs.History.{Call, Enter, Mark, Close, Take, ofSide, pairOf as handedBy, World, step, run}
-use Rattle.demands.proofs.Gates.{Later, later-refl, later-trans, later-closed, below-later, below-after, later-shut}
+use Rattle.journal.proofs.Onward.{Onward, onward-same, onward-trans, onward-closed, below-onward, below-ahead, closed-onward}
 use Rattle.demands.proofs.Invariant.{new-starts, entry-later, mark-later}
-use Rattle.demands.proofs.Views.{view-state, turned, view-turned, waiting-stored}
+use Rattle.queue.proofs.Sound.{waiting-stored}
+use Rattle.join.proofs.View.{view-stateOf, turned, view-across}
 
 -- a moment of a run, as a side sees it
 pub record Moment : Type 0 where
@@ -41,23 +42,23 @@ abbrev readyThen : Moment → Pair → Bool
 readyThen m = ready (m .seen .own .gate) (m .seen .other .gate)
 
 pub record After (m n : Moment) : Type 0 where
-  pub clock : Later (m .seen .own .gate) (n .seen .own .gate)
-  pub clockOther : Later (m .seen .other .gate) (n .seen .other .gate)
+  pub clock : Onward (m .seen .own .gate) (n .seen .own .gate)
+  pub clockOther : Onward (m .seen .other .gate) (n .seen .other .gate)
   pub longer : IsPrefix (m .out) (n .out)
   pub still : keep (readyThen m) (n .out ++ n .seen .waiting) ≡ keep (readyThen m) (m .out ++ m .seen .waiting)
   pub shut : isClosed (m .seen .own .gate) ≡ true → n .own ≡ m .own
   pub shutOther : isClosed (m .seen .other .gate) ≡ true → n .other ≡ m .other
 
-ready-later : (g h g′ h′ : Gate) → Later g g′ → Later h h′ → (p : Pair) → ready g h p ≡ true → ready g′ h′ p ≡ true
+ready-later : (g h g′ h′ : Gate) → Onward g g′ → Onward h h′ → (p : Pair) → ready g h p ≡ true → ready g′ h′ p ≡ true
 unfolding ready
 ready-later g h g′ h′ l k p e =
     let t = p .meeting .start in
-    rw (below-later g g′ l t (and-left (below g t) (below h t) e), below-later h h′ k t (and-right (below g t) (below h t) e))
+    rw (below-onward g g′ l t (and-left (below g t) (below h t) e), below-onward h h′ k t (and-right (below g t) (below h t) e))
 
 after-refl : (m : Moment) → After m m
 after-refl m = record {
-  clock = later-refl (m .seen .own .gate);
-  clockOther = later-refl (m .seen .other .gate);
+  clock = onward-same (m .seen .own .gate);
+  clockOther = onward-same (m .seen .other .gate);
   longer = ([], append-nil (m .out));
   still = refl;
   shut = λ e. refl;
@@ -66,12 +67,12 @@ after-refl m = record {
 
 after-trans : (m n o : Moment) → After m n → After n o → After m o
 after-trans m n o p q = record {
-  clock = later-trans (m .seen .own .gate) (n .seen .own .gate) (o .seen .own .gate) (p .clock) (q .clock);
-  clockOther = later-trans (m .seen .other .gate) (n .seen .other .gate) (o .seen .other .gate) (p .clockOther) (q .clockOther);
+  clock = onward-trans (m .seen .own .gate) (n .seen .own .gate) (o .seen .own .gate) (p .clock) (q .clock);
+  clockOther = onward-trans (m .seen .other .gate) (n .seen .other .gate) (o .seen .other .gate) (p .clockOther) (q .clockOther);
   longer = (p .longer .0 ++ q .longer .0, sym (append-assoc (m .out) (p .longer .0) (q .longer .0)) ∙ ap (λ (l : List Pair). l ++ q .longer .0) (p .longer .1) ∙ q .longer .1);
   still = sym (both (o .out ++ o .seen .waiting)) ∙ ap (keep (readyThen m)) (q .still) ∙ both (n .out ++ n .seen .waiting) ∙ p .still;
-  shut = λ e. q .shut (later-shut (m .seen .own .gate) (n .seen .own .gate) (p .clock) e) ∙ p .shut e;
-  shutOther = λ e. q .shutOther (later-shut (m .seen .other .gate) (n .seen .other .gate) (p .clockOther) e) ∙ p .shutOther e;
+  shut = λ e. q .shut (closed-onward (m .seen .own .gate) (n .seen .own .gate) (p .clock) e) ∙ p .shut e;
+  shutOther = λ e. q .shutOther (closed-onward (m .seen .other .gate) (n .seen .other .gate) (p .clockOther) e) ∙ p .shutOther e;
 }
   where
     both : (l : List Pair) → keep (readyThen m) (keep (readyThen n) l) ≡ keep (readyThen m) l
@@ -79,32 +80,32 @@ after-trans m n o p q = record {
 
 -- ---- a gate moves, an entry comes
 
-after-move : (m : Moment) (gate : Gate) → Later (m .seen .own .gate) gate → After m (record { seen = afterMove gate (m .seen); own = m .own; other = m .other; out = m .out })
+after-move : (m : Moment) (gate : Gate) → Onward (m .seen .own .gate) gate → After m (record { seen = afterMove gate (m .seen); own = m .own; other = m .other; out = m .out })
 unfolding afterMove
 after-move m gate l = record {
   clock = l;
-  clockOther = later-refl (m .seen .other .gate);
+  clockOther = onward-same (m .seen .other .gate);
   longer = ([], append-nil (m .out));
   still = refl;
   shut = λ e. refl;
   shutOther = λ e. refl;
 }
 
-open-not-shut : (g : Gate) (t : ℕ) → Later g (Open t) → isClosed g ≡ true → ⊥
+open-not-shut : (g : Gate) (t : ℕ) → Onward g (Open t) → isClosed g ≡ true → ⊥
 open-not-shut (Open c) t l e = false≢true e
 open-not-shut Closed t l e = l
 
-after-enter : (side : Side) (m : Moment) (e : Entry) → Later (m .seen .own .gate) (Open (e .span .start))
+after-enter : (side : Side) (m : Moment) (e : Entry) → Onward (m .seen .own .gate) (Open (e .span .start))
     → After m (record { seen = afterEntry side (m .seen) e; own = m .own ++ (e ∷ []); other = m .other; out = m .out })
 unfolding afterEntry ready
 after-enter side m e l =
     let new = formed side (m .seen) e in
     let hidden = all-map (λ (p : Pair). e .span .start ≤ p .meeting .start) (λ (p : Pair). readyThen m p ≡ false)
-    (λ p k. ap (λ (b : Bool). b && below (m .seen .other .gate) (p .meeting .start)) (below-after (m .seen .own .gate) (e .span .start) (p .meeting .start) l k))
+    (λ p k. ap (λ (b : Bool). b && below (m .seen .other .gate) (p .meeting .start)) (below-ahead (m .seen .own .gate) (e .span .start) l (p .meeting .start) k))
     new (new-starts (m .seen .rule) side (arrival (m .seen) e) (m .seen .others)) in
     record {
       clock = l;
-      clockOther = later-refl (m .seen .other .gate);
+      clockOther = onward-same (m .seen .other .gate);
       longer = ([], append-nil (m .out));
       still = keep-append (readyThen m) (m .out) (insertAllBy comesBefore new (m .seen .waiting))
           ∙ ap (λ (r : List Pair). keep (readyThen m) (m .out) ++ r) (keep-insertAllBy comesBefore (readyThen m) new (m .seen .waiting) hidden)
@@ -149,17 +150,17 @@ Next side s ofA ofB out s′ ofA′ ofB′ out′ = After (momentOf side s ofA o
 back : (side : Side) (s : State) (ofA ofB : List Entry) (out : List Pair) (s′ : State) (ofA′ ofB′ : List Entry) (out′ : List Pair)
     → Next side s ofA ofB out s′ ofA′ ofB′ out′ → Next A s ofA ofB out s′ ofA′ ofB′ out′
 back A s ofA ofB out s′ ofA′ ofB′ out′ p = p
-back B s ofA ofB out s′ ofA′ ofB′ out′ p = turn-back (momentOf A s ofA ofB out) (momentOf A s′ ofA′ ofB′ out′) (rw (view-turned s, view-turned s′) at p)
+back B s ofA ofB out s′ ofA′ ofB′ out′ p = turn-back (momentOf A s ofA ofB out) (momentOf A s′ ofA′ ofB′ out′) (rw (view-across A s, view-across A s′) at p)
 
 module _ (s : State) (ofA ofB : List Entry) (out : List Pair) where
-  state-move : (side : Side) (gate : Gate) → Later (view side s .own .gate) gate → Next side s ofA ofB out (stateOf side (afterMove gate (view side s))) ofA ofB out
-  state-move A gate l = rw (view-state A (afterMove gate (view A s))) (after-move (momentOf A s ofA ofB out) gate l)
-  state-move B gate l = rw (view-state B (afterMove gate (view B s))) (after-move (momentOf B s ofA ofB out) gate l)
+  state-move : (side : Side) (gate : Gate) → Onward (view side s .own .gate) gate → Next side s ofA ofB out (stateOf side (afterMove gate (view side s))) ofA ofB out
+  state-move A gate l = rw (view-stateOf A (afterMove gate (view A s))) (after-move (momentOf A s ofA ofB out) gate l)
+  state-move B gate l = rw (view-stateOf B (afterMove gate (view B s))) (after-move (momentOf B s ofA ofB out) gate l)
 
-  state-enter : (side : Side) (e : Entry) → Later (view side s .own .gate) (Open (e .span .start))
+  state-enter : (side : Side) (e : Entry) → Onward (view side s .own .gate) (Open (e .span .start))
       → Next side s ofA ofB out (stateOf side (afterEntry side (view side s) e)) (ofA ++ ofSide A side e) (ofB ++ ofSide B side e) out
-  state-enter A e l = rw (view-state A (afterEntry A (view A s) e), append-nil ofB) (after-enter A (momentOf A s ofA ofB out) e l)
-  state-enter B e l = rw (view-state B (afterEntry B (view B s) e), append-nil ofA) (after-enter B (momentOf B s ofA ofB out) e l)
+  state-enter A e l = rw (view-stateOf A (afterEntry A (view A s) e), append-nil ofB) (after-enter A (momentOf A s ofA ofB out) e l)
+  state-enter B e l = rw (view-stateOf B (afterEntry B (view B s) e), append-nil ofA) (after-enter B (momentOf B s ofA ofB out) e l)
 
   same : Next A s ofA ofB out s ofA ofB (out ++ [])
   same = rw (append-nil out) (after-refl (momentOf A s ofA ofB out))
@@ -170,8 +171,8 @@ module _ (s : State) (ofA ofB : List Entry) (out : List Pair) where
       let left = waiting-stored (drop 1 (waitingIn s)) ∙ ap (drop 1) e in
       let whole = append-assoc out (p ∷ []) _ ∙ ap (λ (l : List Pair). out ++ (p ∷ l)) left ∙ ap (λ (l : List Pair). out ++ l) (sym e) in
       record {
-        clock = later-refl (s .join .a .journal .gate);
-        clockOther = later-refl (s .join .b .journal .gate);
+        clock = onward-same (s .join .a .journal .gate);
+        clockOther = onward-same (s .join .b .journal .gate);
         longer = (p ∷ [], refl);
         still = ap (keep (readyIn s)) whole;
         shut = λ k. refl;
@@ -198,12 +199,12 @@ module _ (s : State) (ofA ofB : List Entry) (out : List Pair) where
       go true = taken (waitingIn s) refl
       go false = same
 
-  entering : (side : Side) (e : Entry) (a : Answer) → (a ≡ Accepted → Later (view side s .own .gate) (Open (e .span .start)))
+  entering : (side : Side) (e : Entry) (a : Answer) → (a ≡ Accepted → Onward (view side s .own .gate) (Open (e .span .start)))
       → Next A s ofA ofB out (unlessRefused a (stateOf side (afterEntry side (view side s) e)) s) (ofA ++ unlessRefused a (ofSide A side e) []) (ofB ++ unlessRefused a (ofSide B side e) []) (out ++ [])
   entering side e Accepted l = rw (append-nil out) (back side s ofA ofB out (stateOf side (afterEntry side (view side s) e)) (ofA ++ ofSide A side e) (ofB ++ ofSide B side e) out (state-enter side e (l refl)))
   entering side e (Refused number) l = rw (append-nil ofA, append-nil ofB) same
 
-  moving : (side : Side) (gate : Gate) (a : Answer) → (a ≡ Accepted → Later (view side s .own .gate) gate)
+  moving : (side : Side) (gate : Gate) (a : Answer) → (a ≡ Accepted → Onward (view side s .own .gate) gate)
       → Next A s ofA ofB out (unlessRefused a (stateOf side (afterMove gate (view side s))) s) (ofA ++ []) (ofB ++ []) (out ++ [])
   moving side gate Accepted l = rw (append-nil ofA, append-nil ofB, append-nil out) (back side s ofA ofB out (stateOf side (afterMove gate (view side s))) ofA ofB out (state-move side gate (l refl)))
   moving side gate (Refused number) l = rw (append-nil ofA, append-nil ofB) same
@@ -221,7 +222,7 @@ unfolding entryCall markCall closeCall
 follows-step w (Enter stream e) = entering (w .state) (w .ofA) (w .ofB) (w .out) (sideOf stream) e (entryCall (w .state) stream e .answer) (entry-later (w .state) stream e)
 follows-step w (Mark stream time) = moving (w .state) (w .ofA) (w .ofB) (w .out) (sideOf stream) (Open time) (markCall (w .state) stream time .answer) (mark-later (w .state) stream time)
 follows-step w (Close stream) =
-    moving (w .state) (w .ofA) (w .ofB) (w .out) (sideOf stream) Closed (closeCall (w .state) stream .answer) (λ h. later-closed (view (sideOf stream) (w .state) .own .gate))
+    moving (w .state) (w .ofA) (w .ofB) (w .out) (sideOf stream) Closed (closeCall (w .state) stream .answer) (λ h. onward-closed (view (sideOf stream) (w .state) .own .gate))
 follows-step w Take = rw (append-nil (w .ofA), append-nil (w .ofB)) (takes (w .state) (w .ofA) (w .ofB) (w .out))
 
 pub follows-run : (w : World) (calls : List Call) → Follows w (run w calls)

@@ -38,8 +38,9 @@ use Rattle.join.specs.declared.Took.the-variants as took
 use Rattle.join.specs.State.{State, View, view, stateOf, sound, freshState}
 use Rattle.join.specs.Calls.{sideOf, arrival, formed, entryRows, afterEntry, afterMove, judgeRows, entryCall, markCall, closeCall, takeCall, takeOn, waitingIn, readyIn, bothClosed, nextOf, without, afterTake}
 use Rattle.demands.specs.History.{Call, Enter, Mark, Close, Take, ofSide, pairOf as handedBy, World, begin, step, run}
-use Rattle.demands.proofs.Gates.{Later, later-closed, later-open, below-later, wanted-later, below-before, wanted-after}
-use Rattle.demands.proofs.Views.{view-state, turned, view-turned, waiting-stored}
+use Rattle.journal.proofs.Onward.{Onward, onward-closed, onward-open, below-onward, wanted-onward, below-before, wanted-after}
+use Rattle.queue.proofs.Sound.{waiting-stored}
+use Rattle.join.proofs.View.{view-stateOf, turned, view-across}
 
 -- the plain list, the entries of one side named first
 abbrev pub plainFrom : Side → Rule → List Entry → List Entry → List Pair
@@ -62,14 +63,14 @@ pub record Good (rule : Rule) (side : Side) (v : View) (own other : List Entry) 
 
 -- ---- a gate moves
 
-still-wanted : (g h : Gate) → Later g h → (xs held : List Numbered) → held ≡ wantedBy g xs → wantedBy h held ≡ wantedBy h xs
+still-wanted : (g h : Gate) → Onward g h → (xs held : List Numbered) → held ≡ wantedBy g xs → wantedBy h held ≡ wantedBy h xs
 still-wanted g h l xs held e =
-    ap (wantedBy h) e ∙ keep-keep (λ (x : Numbered). wanted h (x .entry)) (λ (x : Numbered). wanted g (x .entry)) (λ x k. wanted-later g h l (x .entry) k) xs
+    ap (wantedBy h) e ∙ keep-keep (λ (x : Numbered). wanted h (x .entry)) (λ (x : Numbered). wanted g (x .entry)) (λ x k. wanted-onward g h l (x .entry) k) xs
 
-still-due : (g h other : Gate) → Later g h → (ps : List Pair) → All (Due g other) ps → All (Due h other) ps
-still-due g h other l = all-map (Due g other) (Due h other) (λ p k. (below-later g h l (p .meeting .start) (k .0), k .1))
+still-due : (g h other : Gate) → Onward g h → (ps : List Pair) → All (Due g other) ps → All (Due h other) ps
+still-due g h other l = all-map (Due g other) (Due h other) (λ p k. (below-onward g h l (p .meeting .start) (k .0), k .1))
 
-pub moves : (rule : Rule) (side : Side) (v : View) (own other : List Entry) (out : List Pair) (gate : Gate) → Later (v .own .gate) gate
+pub moves : (rule : Rule) (side : Side) (v : View) (own other : List Entry) (out : List Pair) (gate : Gate) → Onward (v .own .gate) gate
     → Good rule side v own other out → Good rule side (afterMove gate v) own other out
 unfolding afterMove
 moves rule side v own other out gate l g = record {
@@ -96,7 +97,7 @@ new-starts rule side x others =
     one B y = rw (pair-meeting y x, meeting-comm (y .entry .span) (x .entry .span)) (meeting-start (x .entry .span) (y .entry .span))
 
 -- entries that are not wanted any more would make no pair with it
-new-wanted : (rule : Rule) (side : Side) (x : Numbered) (gate : Gate) → Later gate (Open (x .entry .span .start)) → (others : List Numbered) → newPairs rule side x (wantedBy gate others) ≡ newPairs rule side x others
+new-wanted : (rule : Rule) (side : Side) (x : Numbered) (gate : Gate) → Onward gate (Open (x .entry .span .start)) → (others : List Numbered) → newPairs rule side x (wantedBy gate others) ≡ newPairs rule side x others
 new-wanted rule side x gate l others =
     newPairs-map rule side x (wantedBy gate others)
     ∙ ap (map (pairFrom side x)) (keep-keep (pairing rule x) (λ (y : Numbered). wanted gate (y .entry)) wants others)
@@ -120,7 +121,7 @@ plain-more rule A own other e = plain-a rule own other e
 plain-more rule B own other e = plain-b rule other own e
 
 -- what was handed out starts before it, so its pairs go behind
-behind : (start : ℕ) (g h : Gate) → Later g (Open start) → (new out : List Pair) → All (λ (p : Pair). start ≤ p .meeting .start) new → All (Due g h) out
+behind : (start : ℕ) (g h : Gate) → Onward g (Open start) → (new out : List Pair) → All (λ (p : Pair). start ≤ p .meeting .start) new → All (Due g h) out
     → All (λ (p : Pair). All (λ (q : Pair). comesBefore p q ≡ false) out) new
 behind start g h l new out starts due =
     all-map (λ (p : Pair). start ≤ p .meeting .start) (λ (p : Pair). All (λ (q : Pair). comesBefore p q ≡ false) out)
@@ -136,7 +137,7 @@ behind start g h l new out starts due =
         go true f = absurd (never f)
         go false f = f
 
-pub enters : (rule : Rule) (side : Side) (v : View) (own other : List Entry) (out : List Pair) (e : Entry) → Later (v .own .gate) (Open (e .span .start))
+pub enters : (rule : Rule) (side : Side) (v : View) (own other : List Entry) (out : List Pair) (e : Entry) → Onward (v .own .gate) (Open (e .span .start))
     → Good rule side v own other out → Good rule side (afterEntry side v e) (own ++ (e ∷ [])) other out
 unfolding afterEntry
 enters rule side v own other out e l g =
@@ -194,21 +195,21 @@ turn-back rule v ofA ofB out g = record {
 
 from : (rule : Rule) (side : Side) (s : State) (ofA ofB : List Entry) (out : List Pair) → Kept rule A s ofA ofB out → Kept rule side s ofA ofB out
 from rule A s ofA ofB out g = g
-from rule B s ofA ofB out g = rw (view-turned s) (turn rule (view A s) ofA ofB out g)
+from rule B s ofA ofB out g = rw (view-across A s) (turn rule (view A s) ofA ofB out g)
 
 back : (rule : Rule) (side : Side) (s : State) (ofA ofB : List Entry) (out : List Pair) → Kept rule side s ofA ofB out → Kept rule A s ofA ofB out
 back rule A s ofA ofB out g = g
-back rule B s ofA ofB out g = turn-back rule (view A s) ofA ofB out (rw (view-turned s) at g)
+back rule B s ofA ofB out g = turn-back rule (view A s) ofA ofB out (rw (view-across A s) at g)
 
-state-moves : (rule : Rule) (side : Side) (s : State) (ofA ofB : List Entry) (out : List Pair) (gate : Gate) → Later (view side s .own .gate) gate
+state-moves : (rule : Rule) (side : Side) (s : State) (ofA ofB : List Entry) (out : List Pair) (gate : Gate) → Onward (view side s .own .gate) gate
     → Kept rule side s ofA ofB out → Kept rule side (stateOf side (afterMove gate (view side s))) ofA ofB out
-state-moves rule A s ofA ofB out gate l g = rw (view-state A (afterMove gate (view A s))) (moves rule A (view A s) ofA ofB out gate l g)
-state-moves rule B s ofA ofB out gate l g = rw (view-state B (afterMove gate (view B s))) (moves rule B (view B s) ofB ofA out gate l g)
+state-moves rule A s ofA ofB out gate l g = rw (view-stateOf A (afterMove gate (view A s))) (moves rule A (view A s) ofA ofB out gate l g)
+state-moves rule B s ofA ofB out gate l g = rw (view-stateOf B (afterMove gate (view B s))) (moves rule B (view B s) ofB ofA out gate l g)
 
-state-enters : (rule : Rule) (side : Side) (s : State) (ofA ofB : List Entry) (out : List Pair) (e : Entry) → Later (view side s .own .gate) (Open (e .span .start))
+state-enters : (rule : Rule) (side : Side) (s : State) (ofA ofB : List Entry) (out : List Pair) (e : Entry) → Onward (view side s .own .gate) (Open (e .span .start))
     → Kept rule side s ofA ofB out → Kept rule side (stateOf side (afterEntry side (view side s) e)) (ofA ++ ofSide A side e) (ofB ++ ofSide B side e) out
-state-enters rule A s ofA ofB out e l g = rw (view-state A (afterEntry A (view A s) e), append-nil ofB) (enters rule A (view A s) ofA ofB out e l g)
-state-enters rule B s ofA ofB out e l g = rw (view-state B (afterEntry B (view B s) e), append-nil ofA) (enters rule B (view B s) ofB ofA out e l g)
+state-enters rule A s ofA ofB out e l g = rw (view-stateOf A (afterEntry A (view A s) e), append-nil ofB) (enters rule A (view A s) ofA ofB out e l g)
+state-enters rule B s ofA ofB out e l g = rw (view-stateOf B (afterEntry B (view B s) e), append-nil ofA) (enters rule B (view B s) ofB ofA out e l g)
 
 -- ---- a take
 
@@ -267,19 +268,19 @@ quiet (row ∷ rows) h = go (row .when) refl (quiet rows) h
     go true e i k = absurd (never k)
     go false e i k = (e, i k)
 
-pub entry-later : (s : State) (stream : ℕ) (e : Entry) → entryCall s stream e .answer ≡ Accepted → Later (view (sideOf stream) s .own .gate) (Open (e .span .start))
+pub entry-later : (s : State) (stream : ℕ) (e : Entry) → entryCall s stream e .answer ≡ Accepted → Onward (view (sideOf stream) s .own .gate) (Open (e .span .start))
 unfolding entryCall entryRows
 entry-later s stream e h =
     let v = view (sideOf stream) s in
     let q = quiet (judgeRows s stream ++ entryRows (sideOf stream) v e) h in
-    later-open (v .own .gate) (e .span .start) (q .1 .1 .0) (q .1 .1 .1 .1 .0)
+    onward-open (v .own .gate) (e .span .start) (q .1 .1 .0) (q .1 .1 .1 .1 .0)
 
-pub mark-later : (s : State) (stream time : ℕ) → markCall s stream time .answer ≡ Accepted → Later (view (sideOf stream) s .own .gate) (Open time)
+pub mark-later : (s : State) (stream time : ℕ) → markCall s stream time .answer ≡ Accepted → Onward (view (sideOf stream) s .own .gate) (Open time)
 unfolding markCall
 mark-later s stream time h =
     let v = view (sideOf stream) s in
     let q = quiet (judgeRows s stream ++ markRows time (v .own)) h in
-    later-open (v .own .gate) time (q .1 .1 .0) (q .1 .1 .1 .0)
+    onward-open (v .own .gate) time (q .1 .1 .0) (q .1 .1 .1 .0)
 
 abbrev pub GoodWorld : Rule → World → Type 0
 GoodWorld rule w = Kept rule A (w .state) (w .ofA) (w .ofB) (w .out)
@@ -292,11 +293,11 @@ judged rule s next ofA ofB out moreA moreB Accepted h g = rw (append-nil out) (h
 judged rule s next ofA ofB out moreA moreB (Refused number) h g = rw (append-nil ofA, append-nil ofB, append-nil out) g
 
 -- a mark or a close brings no entry
-moving : (rule : Rule) (side : Side) (s : State) (ofA ofB : List Entry) (out : List Pair) (gate : Gate) (a : Answer) → (a ≡ Accepted → Later (view side s .own .gate) gate)
+moving : (rule : Rule) (side : Side) (s : State) (ofA ofB : List Entry) (out : List Pair) (gate : Gate) (a : Answer) → (a ≡ Accepted → Onward (view side s .own .gate) gate)
     → Kept rule A s ofA ofB out → Kept rule A (unlessRefused a (stateOf side (afterMove gate (view side s))) s) (ofA ++ []) (ofB ++ []) (out ++ [])
 moving rule side s ofA ofB out gate a l g = rw (append-nil ofA, append-nil ofB, append-nil out) (go a l)
   where
-    go : (a : Answer) → (a ≡ Accepted → Later (view side s .own .gate) gate) → Kept rule A (unlessRefused a (stateOf side (afterMove gate (view side s))) s) ofA ofB out
+    go : (a : Answer) → (a ≡ Accepted → Onward (view side s .own .gate) gate) → Kept rule A (unlessRefused a (stateOf side (afterMove gate (view side s))) s) ofA ofB out
     go Accepted l = back rule side (stateOf side (afterMove gate (view side s))) ofA ofB out (state-moves rule side s ofA ofB out gate (l refl) (from rule side s ofA ofB out g))
     go (Refused number) l = g
 
@@ -309,7 +310,7 @@ stepped rule w (Enter stream e) g =
     (λ h. back rule side _ _ _ (w .out) (state-enters rule side s (w .ofA) (w .ofB) (w .out) e (entry-later s stream e h) (from rule side s (w .ofA) (w .ofB) (w .out) g))) g
 stepped rule w (Mark stream time) g = moving rule (sideOf stream) (w .state) (w .ofA) (w .ofB) (w .out) (Open time) (markCall (w .state) stream time .answer) (mark-later (w .state) stream time) g
 stepped rule w (Close stream) g =
-    moving rule (sideOf stream) (w .state) (w .ofA) (w .ofB) (w .out) Closed (closeCall (w .state) stream .answer) (λ h. later-closed (view (sideOf stream) (w .state) .own .gate)) g
+    moving rule (sideOf stream) (w .state) (w .ofA) (w .ofB) (w .out) Closed (closeCall (w .state) stream .answer) (λ h. onward-closed (view (sideOf stream) (w .state) .own .gate)) g
 stepped rule w Take g = rw (append-nil (w .ofA), append-nil (w .ofB)) (takes rule (w .state) (w .ofA) (w .ofB) (w .out) g)
 
 pub ran : (rule : Rule) (w : World) (calls : List Call) → GoodWorld rule w → GoodWorld rule (run w calls)
@@ -318,4 +319,4 @@ ran rule w (c ∷ cs) g = ran rule (step w c) cs (stepped rule w c g)
 
 pub began : (rule : Rule) → GoodWorld rule (begin rule)
 unfolding freshState plain couplesThat flatMap
-began rule = rw (view-state A _) (record { ruled = refl; counts = refl; countsOther = refl; holds = refl; holdsOther = refl; listed = refl; due = tt })
+began rule = rw (view-stateOf A _) (record { ruled = refl; counts = refl; countsOther = refl; holds = refl; holdsOther = refl; listed = refl; due = tt })

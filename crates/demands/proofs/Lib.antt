@@ -1,6 +1,4 @@
 pub mod Refused
-pub mod Gates
-pub mod Views
 pub mod Invariant
 pub mod Follows
 pub mod Sums

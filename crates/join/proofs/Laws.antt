@@ -36,12 +36,14 @@ use Rattle.journal.specs.Journal.{wanted, isClosed, isBehind, moved, entered}
 use Rattle.area.specs.declared.Area.{Area}
 use Rattle.area.specs.Area as area
 use Rattle.area.proofs.Laws as area-laws
+use Rattle.area.proofs.Sound.{follows-later, follows-trans}
 use Rattle.queue.specs.declared.Queue.{Queue}
 use Rattle.queue.specs.Queue as queue
 use Rattle.queue.proofs.Laws as queue-laws
 use Rattle.join.specs.declared.Half.{Half}
 use Rattle.join.specs.declared.Took.the-variants.{Handed, Waiting, Finished}
 use Rattle.join.specs.State.{State, View, Sound, Stand, Leaves, sound, entries, stateWith, seen, journalOf, halfOf, view, stateOf}
+use Rattle.join.proofs.View.{stateOf-view}
 use Rattle.join.specs.Calls.{outcome, called, arrival, formed, entryRows, afterEntry, entryOn, afterMove, judgeRows, waitingIn, readyIn, bothClosed, afterTake, takeOn, without}
 
 -- ---- the new pairs of an entry
@@ -53,18 +55,6 @@ formed-count rule side x others = ap length (newPairs-map rule side x others) �
 -- and no more than the entries that are looked at
 pub partners-few : (rule : Rule) (e : Entry) (xs : List Numbered) → length (area.partners rule e xs) ≤ length xs
 partners-few rule e xs = keep-length (λ (x : Numbered). pairs rule e (x .entry)) xs
-
-follows-later : (x y : Numbered) → area.follows x y ≡ true → Later x y
-follows-later x y e = (ltb-true (x .ordinal) (y .ordinal) (and-left _ _ e), leb-true (x .entry .span .start) (y .entry .span .start) (and-right (ltb (x .ordinal) (y .ordinal)) _ e))
-
-later-follows : (x y : Numbered) → Later x y → area.follows x y ≡ true
-later-follows x y h = rw (lt-ltb (x .ordinal) (y .ordinal) (h .0), le-leb (x .entry .span .start) (y .entry .span .start) (h .1))
-
-follows-trans : (x y z : Numbered) → area.follows x y ≡ true → area.follows y z ≡ true → area.follows x z ≡ true
-follows-trans x y z e f =
-    let h = follows-later x y e in
-    let k = follows-later y z f in
-    later-follows x z (omega arith, omega arith)
 
 -- they come in ascending order, as the held entries follow one another
 pub formed-ascending : (rule : Rule) (side : Side) (x : Numbered) (others : List Numbered) → chain area.follows others ≡ true → chain comesBefore (newPairs rule side x others) ≡ true
@@ -243,12 +233,6 @@ module _ (rule : Rule) (v : View) (same : v .rule ≡ rule) (own other : Half) (
     rows = l .queue-rows i;
   }
 
--- a sound state is the one that each side sees
-pub same-state : (side : Side) (s : State) → Sound s → stateOf side (view side s) ≡ s
-unfolding view
-same-state A s ok = sym (state-a (s .join .rule) (view A s) refl (s .join .a) (s .join .b) (s .join .queue) (s .inA) (s .inB) (s .rows) (leaves-all (s .join .rule) A (s .join .a) (s .join .b) (s .join .queue) (s .inA) (s .inB) (s .rows) (stand-a s ok)))
-same-state B s ok = sym (state-b (s .join .rule) (view B s) refl (s .join .b) (s .join .a) (s .join .queue) (s .inB) (s .inA) (s .rows) (leaves-all (s .join .rule) B (s .join .b) (s .join .a) (s .join .queue) (s .inB) (s .inA) (s .rows) (stand-b s ok)))
-
 -- an answer, and the state that a side sees after it, are those of the call
 pub called-seen : (side : Side) (s : State) → Sound s → (rows : List Row) (after : View) (answer : Answer) → answer ≡ firstOf rows
     → outcome answer (stateOf side (unlessRefused answer after (view side s))) ≡ called s rows (stateOf side after)
@@ -256,7 +240,7 @@ called-seen side s ok rows after answer e = ap (λ (a : Answer). outcome a (stat
   where
     go : (a : Answer) → stateOf side (unlessRefused a after (view side s)) ≡ unlessRefused a (stateOf side after) s
     go Accepted = refl
-    go (Refused number) = same-state side s ok
+    go (Refused number) = stateOf-view side s ok
 
 -- the rule never changes
 pub rule-kept : (answer : Answer) (v after : View) → after .rule ≡ v .rule → unlessRefused answer after v .rule ≡ v .rule

@@ -1,12 +1,13 @@
 -- A gate moves onward: from an open clock to one that is no earlier or to closed, and never back.
-use Prim.Native.Nat.{ℕ, _≤_}
+use Prim.Native.Nat.{ℕ, _≤_, _<_}
 use native.Mathlib.Omega.{arith}
-use mathlib.Core.Bool.{true, false, true≢false}
+use mathlib.Core.Bool.{true, false, true≢false, false≢true}
 use mathlib.Core.Path.{_≡_, refl}
 use borrow.Author.Tests.{ltb-true, ltb-false, lt-ltb, le-ltb, leb-true, le-leb}
+use Rattle.pairing.specs.declared.Entry.{Entry}
 use Rattle.journal.specs.declared.Gate.{Gate}
 use Rattle.journal.specs.declared.Gate.the-variants.{Open, Closed}
-use Rattle.journal.specs.Journal.{below, notPast, isClosed, isBehind}
+use Rattle.journal.specs.Journal.{wanted, below, notPast, isClosed, isBehind}
 
 abbrev pub Onward : Gate → Gate → Type 0
 Onward (Open clock) (Open next) = clock ≤ next
@@ -17,6 +18,14 @@ Onward Closed Closed = Unit {0}
 pub onward-same : (gate : Gate) → Onward gate gate
 onward-same (Open clock) = omega arith
 onward-same Closed = tt
+
+pub onward-trans : (first second third : Gate) → Onward first second → Onward second third → Onward first third
+onward-trans (Open a) (Open b) (Open c) p q = omega arith
+onward-trans (Open a) (Open b) Closed p q = tt
+onward-trans (Open a) Closed (Open c) p q = absurd q
+onward-trans (Open a) Closed Closed p q = tt
+onward-trans Closed (Open b) third p q = absurd p
+onward-trans Closed Closed third p q = q
 
 pub onward-closed : (gate : Gate) → Onward gate Closed
 onward-closed (Open clock) = tt
@@ -45,3 +54,26 @@ notPast-onward Closed Closed h t e = refl
 pub below-ahead : (gate : Gate) (time : ℕ) → Onward gate (Open time) → (t : ℕ) → time ≤ t → below gate t ≡ false
 below-ahead (Open clock) time h t k = le-ltb t clock (omega arith)
 below-ahead Closed time h t k = absurd h
+
+-- what it has passed lies before that time
+pub below-before : (gate : Gate) (time t : ℕ) → Onward gate (Open time) → below gate t ≡ true → t < time
+below-before (Open clock) time t h e = omega (arith, ltb-true t clock e)
+below-before Closed time t h e = absurd h
+
+-- a later gate wants no more
+pub wanted-onward : (gate next : Gate) → Onward gate next → (e : Entry) → wanted next e ≡ true → wanted gate e ≡ true
+wanted-onward (Open clock) (Open later) h e k = lt-ltb clock (e .span .end) (omega (arith, ltb-true later (e .span .end) k))
+wanted-onward (Open clock) Closed h e k = absurd (false≢true k)
+wanted-onward Closed (Open later) h e k = absurd h
+wanted-onward Closed Closed h e k = k
+
+-- and whatever ends after a time that the clock may move to is wanted
+pub wanted-after : (gate : Gate) (time : ℕ) (e : Entry) → Onward gate (Open time) → time < e .span .end → wanted gate e ≡ true
+wanted-after (Open clock) time e h k = lt-ltb clock (e .span .end) (omega arith)
+wanted-after Closed time e h k = absurd h
+
+-- a closed gate stays closed
+pub closed-onward : (gate next : Gate) → Onward gate next → isClosed gate ≡ true → isClosed next ≡ true
+closed-onward (Open clock) next h e = absurd (false≢true e)
+closed-onward Closed (Open later) h e = absurd h
+closed-onward Closed Closed h e = refl
