@@ -25,7 +25,7 @@ use Rattle.queue.specs.Queue.{ready}
 use Rattle.join.specs.declared.Took.the-variants as took
 use Rattle.join.specs.State.{State, View, view, stateOf, sound}
 use Rattle.join.specs.Calls.{sideOf, arrival, formed, afterEntry, afterMove, entryCall, markCall, closeCall, takeCall, takeOn, waitingIn, readyIn, bothClosed, nextOf, without, afterTake}
-use Rattle.demands.specs.History.{Call, Enter, Mark, Close, Take, ofSide, pairOf as handedBy, World, step, run}
+use Rattle.demands.specs.History.{Call, Enter, Mark, Close, Take, ofSide, handedBy, World, step, run}
 use Rattle.journal.proofs.Onward.{Onward, onward-same, onward-trans, onward-closed, below-onward, below-ahead, closed-onward}
 use Rattle.demands.proofs.Invariant.{new-starts, entry-later, mark-later}
 use Rattle.queue.proofs.Sound.{waiting-stored}

@@ -37,7 +37,7 @@ use Rattle.queue.specs.Queue.{ready}
 use Rattle.join.specs.declared.Took.the-variants as took
 use Rattle.join.specs.State.{State, View, view, stateOf, sound, freshState}
 use Rattle.join.specs.Calls.{sideOf, arrival, formed, entryRows, afterEntry, afterMove, judgeRows, entryCall, markCall, closeCall, takeCall, takeOn, waitingIn, readyIn, bothClosed, nextOf, without, afterTake}
-use Rattle.demands.specs.History.{Call, Enter, Mark, Close, Take, ofSide, pairOf as handedBy, World, begin, step, run}
+use Rattle.demands.specs.History.{Call, Enter, Mark, Close, Take, ofSide, handedBy, World, begin, step, run}
 use Rattle.journal.proofs.Onward.{Onward, onward-closed, onward-open, below-onward, wanted-onward, below-before, wanted-after}
 use Rattle.queue.proofs.Sound.{waiting-stored}
 use Rattle.join.proofs.View.{view-stateOf, turned, view-across}

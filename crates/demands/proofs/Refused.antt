@@ -13,7 +13,7 @@ use Rattle.join.specs.declared.Took.{Took}
 use Rattle.join.specs.declared.Took.the-variants.{Handed, Waiting, Finished, Refused}
 use Rattle.join.specs.State.{State, sound}
 use Rattle.join.specs.Calls.{entryCall, markCall, closeCall, takeCall, takeOn, nextOf, afterTake, readyIn, bothClosed, waitingIn}
-use Rattle.demands.specs.History.{Call, Enter, Mark, Close, Take, after, accepts, hands, pairOf, World, step, run, isRefusal, isTakeRefusal, refused, heeded}
+use Rattle.demands.specs.History.{Call, Enter, Mark, Close, Take, after, accepts, hands, handedBy, World, step, run, isRefusal, isTakeRefusal, refused, heeded}
 
 unless-refused : {A : Type 0} (a : Answer) (new old : A) → isRefusal a ≡ true → unlessRefused a new old ≡ old
 unless-refused answer.Accepted new old e = absurd (false≢true e)
@@ -48,7 +48,7 @@ hands-refused s (Mark stream time) h = refl
 hands-refused s (Close stream) h = refl
 hands-refused s Take h = go (takeCall s .answer) h
   where
-    go : (a : Took) → isTakeRefusal a ≡ true → pairOf a ≡ []
+    go : (a : Took) → isTakeRefusal a ≡ true → handedBy a ≡ []
     go (Handed p) k = absurd (false≢true k)
     go Waiting k = refl
     go Finished k = refl

@@ -9,9 +9,9 @@ use lib.Seq.{length-take-le}
 use Rattle.pairing.specs.declared.Pair.{Pair}
 use Rattle.join.specs.declared.Took.{Took}
 use Rattle.join.specs.State.{Sound}
-use Rattle.join.specs.Calls.{Outcome, without}
-use Rattle.join.proofs.Ready.{readyOf, ready-few, Grows, entry-grows, mark-grows, close-grows, take-ready, takenFrom, takes-together}
-use Rattle.demands.specs.History.{Call, Enter, Mark, Close, Take, after, pairOf, hands, World, step, run}
+use Rattle.join.specs.Calls.{Outcome, without, readyOf}
+use Rattle.join.proofs.Ready.{ready-few, Grows, entry-grows, mark-grows, close-grows, take-ready, takenFrom, takes-together}
+use Rattle.demands.specs.History.{Call, Enter, Mark, Close, Take, after, handedBy, hands, World, step, run}
 use Rattle.demands.specs.Takes.{takes, readyNow, KthTake}
 use Rattle.demands.proofs.Reached.{sound-after, sound-run}
 
@@ -52,7 +52,7 @@ turned (Take ∷ cs) w h (p ∷ earlier) rest e n =
     let one = take-ready (w .state) h p (earlier ++ rest) e in
     let t = turned cs (step w Take) (sound-after (w .state) h Take) earlier rest (ap (λ (o : Outcome Took). readyOf (o .state)) (one .0) ∙ one .1) (omega arith) in
     record {
-      out = t .out ∙ ap (λ (o : Outcome Took). (w .out ++ pairOf (o .answer)) ++ earlier) (one .0) ∙ append-assoc (w .out) (p ∷ []) earlier;
+      out = t .out ∙ ap (λ (o : Outcome Took). (w .out ++ handedBy (o .answer)) ++ earlier) (one .0) ∙ append-assoc (w .out) (p ∷ []) earlier;
       new = t .new;
       still = t .still;
     }

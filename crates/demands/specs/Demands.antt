@@ -13,7 +13,7 @@ use Rattle.journal.specs.Journal.{isClosed}
 use Rattle.area.specs.Area as area
 use Rattle.join.specs.declared.Took.the-variants.{Finished}
 use Rattle.join.specs.State.{freshState}
-use Rattle.join.specs.Calls.{waitingIn, readyIn, bothClosed, takeCall}
+use Rattle.join.specs.Calls.{waitingIn, readyIn, readyOf, bothClosed, takeCall}
 use Rattle.demands.specs.History.{Call, isTake, World, begin, run, refused, heeded}
 use Rattle.demands.specs.Stream.{EachOnce, Element, sameElement, Couple, couple, sameCouple, joined, streamOf, streamOfPairs, matches}
 
@@ -62,7 +62,7 @@ module _ (rule : Rule) (w later : World) where
 
   -- what is handed out or ready is exactly what starts below the clock of every open journal; a closed one sets no limit
   abbrev pub BelowClocks : Type 0
-  BelowClocks = w .out ++ keep (readyIn (w .state)) (waitingIn (w .state)) ≡ keep (readyIn (w .state)) (plainOf rule later)
+  BelowClocks = w .out ++ readyOf (w .state) ≡ keep (readyIn (w .state)) (plainOf rule later)
 
   -- both closed and nothing waiting: the whole list
   abbrev pub Whole : Type 0

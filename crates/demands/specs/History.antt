@@ -49,18 +49,18 @@ accepts side s (Close stream) = []
 accepts side s Take = []
 
 -- the pair that an answer hands out
-abbrev pub pairOf : Took → List Pair
-pairOf (Handed p) = p ∷ []
-pairOf Waiting = []
-pairOf Finished = []
-pairOf (Refused number) = []
+abbrev pub handedBy : Took → List Pair
+handedBy (Handed p) = p ∷ []
+handedBy Waiting = []
+handedBy Finished = []
+handedBy (Refused number) = []
 
 -- the pairs that a call hands out
 abbrev pub hands : State → Call → List Pair
 hands s (Enter stream e) = []
 hands s (Mark stream time) = []
 hands s (Close stream) = []
-hands s Take = pairOf (takeCall s .answer)
+hands s Take = handedBy (takeCall s .answer)
 
 -- what has come of some calls: the accepted entries of each journal and the pairs handed out, in order, and the state
 pub record World : Type 0 where

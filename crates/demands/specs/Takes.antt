@@ -3,11 +3,10 @@ use Prim.Native.Nat.{ℕ, suc, _≤_}
 use mathlib.Core.List.{List, [], _∷_, _++_}
 use mathlib.Core.Path.{_≡_}
 use lib.ListN.{length, take}
-use Rattle.lists.specs.Keep.{keep}
 use Rattle.pairing.specs.declared.Pair.{Pair}
 use Rattle.join.specs.declared.Took.the-variants.{Handed}
 use Rattle.join.specs.State.{Sound}
-use Rattle.join.specs.Calls.{waitingIn, readyIn, takeCall}
+use Rattle.join.specs.Calls.{readyOf, takeCall}
 use Rattle.demands.specs.History.{Call, Enter, Mark, Close, Take, World, run}
 
 -- how many of the calls are takes
@@ -20,7 +19,7 @@ takes (Take ∷ cs) = suc (takes cs)
 
 -- the ready pairs, in their order
 abbrev pub readyNow : World → List Pair
-readyNow w = keep (readyIn (w .state)) (waitingIn (w .state))
+readyNow w = readyOf (w .state)
 
 pub record InTurn (w : World) : Type 0 where
   -- p comes after as many ready pairs as there are takes among the calls, which are any, with any arguments, refused ones too: the take after them hands out p

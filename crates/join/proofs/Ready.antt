@@ -30,13 +30,9 @@ use Rattle.queue.proofs.Ready.{keep-ready-comm, ready-ahead, ready-split, ready
 use Rattle.join.specs.declared.Took.{Took}
 use Rattle.join.specs.declared.Took.the-variants.{Handed}
 use Rattle.join.specs.State.{State, Sound, View, view, stateOf}
-use Rattle.join.specs.Calls.{Outcome, called, sideOf, judgeRows, arrival, formed, entryRows, afterEntry, entryCall, afterMove, markCall, closeRows, closeCall, waitingIn, readyIn, bothClosed, nextOf, without, afterTake, takeOn, takeCall}
+use Rattle.join.specs.Calls.{Outcome, called, sideOf, judgeRows, arrival, formed, entryRows, afterEntry, entryCall, afterMove, markCall, closeRows, closeCall, waitingIn, readyIn, readyOf, bothClosed, nextOf, without, afterTake, takeOn, takeCall}
 use Rattle.join.proofs.View.{view-stateOf, view-waiting}
 use Rattle.join.proofs.Kept.{sound-view, sound-move, sound-entry, without-kept}
-
--- the ready pairs, in their order
-abbrev pub readyOf : State → List Pair
-readyOf s = keep (readyIn s) (waitingIn s)
 
 -- at most 256 are ready
 pub ready-few : (s : State) → Sound s → length (readyOf s) ≤ queue.places

@@ -5,6 +5,7 @@ use mathlib.Core.List.{List, [], _∷_, _++_}
 use lib.Dec.{ltb, leb, eqb}
 use lib.ListN.{length, drop}
 use Rattle.interval.specs.Interval.{properOf}
+use Rattle.lists.specs.Keep.{keep}
 use Rattle.lists.specs.Sort.{insertAllBy}
 use Rattle.pairing.specs.declared.Entry.{Entry}
 use Rattle.pairing.specs.declared.Numbered.{Numbered}
@@ -126,6 +127,10 @@ waitingIn s = queue.waiting (s .join .queue) (s .rows)
 -- below the clock of every open journal of the state
 abbrev pub readyIn : State → Pair → Bool
 readyIn s = queue.ready (s .join .a .journal .gate) (s .join .b .journal .gate)
+
+-- the ready pairs, in their order
+abbrev pub readyOf : State → List Pair
+readyOf s = keep (readyIn s) (waitingIn s)
 
 abbrev pub bothClosed : State → Bool
 bothClosed s = isClosed (s .join .a .journal .gate) && isClosed (s .join .b .journal .gate)
