@@ -21,7 +21,7 @@ use Rattle.pairing.specs.Pair.{pairs, partnerOf, pairOf, comesBefore}
 use Rattle.pairing.specs.Plain.{numberedFrom, coupleThat, couplesThat, plain, matchAt}
 use Rattle.pairing.specs.Rule.{fits}
 use Rattle.pairing.proofs.Pairs.{pairs-at, pair-meeting}
-use Rattle.demands.specs.Stream.{EachOnce, streamFrom, sum, joined, Element, sameElement, Couple, couple, sameCouple, elementOf, coupleOf, streamOf, streamOfPairs, matches}
+use Rattle.demands.specs.Stream.{EachOnce, streamFrom, sumOver, joined, Element, sameElement, Couple, couple, sameCouple, elementOf, coupleOf, streamOf, streamOfPairs, matches}
 use Rattle.demands.proofs.Sums.{once-tally, sum-one, sum-same, sum-none}
 
 same-refl : (x : Element) → sameElement x x ≡ true
@@ -122,13 +122,13 @@ module _ (rule : Rule) (t : ℕ) (x y : Element) where
     nested false false s₂ n = refl
 
     inner : (u : Element) (vs : List Element)
-        → sum (λ (v : Element). cond (matches rule u v && sameCouple (couple u v) (couple x y)) (streamOf ofA .count u t * streamOf ofB .count v t) 0) vs
+        → sumOver (λ (v : Element). cond (matches rule u v && sameCouple (couple u v) (couple x y)) (streamOf ofA .count u t * streamOf ofB .count v t) 0) vs
         ≡ cond (sameElement u x) (tally (λ (v : Element). sameElement v y) vs * term u y) 0
     inner u vs =
         sum-same _ (λ (v : Element). cond (sameElement u x) (cond (sameElement v y) (term u v) 0) 0) (λ v. nested (matches rule u v) (sameElement u x) (sameElement v y) (streamOf ofA .count u t * streamOf ofB .count v t)) vs
         ∙ go (sameElement u x)
       where
-        go : (b : Bool) → sum (λ (v : Element). cond b (cond (sameElement v y) (term u v) 0) 0) vs ≡ cond b (tally (λ (v : Element). sameElement v y) vs * term u y) 0
+        go : (b : Bool) → sumOver (λ (v : Element). cond b (cond (sameElement v y) (term u v) 0) 0) vs ≡ cond b (tally (λ (v : Element). sameElement v y) vs * term u y) 0
         go true = sum-one sameElement same-refl same-true (term u) y vs
         go false = sum-none vs
 

@@ -8,7 +8,7 @@ use lib.Dec.{ltb}
 use borrow.Author.Tests.{lt-ltb}
 use Rattle.lists.specs.Keep.{keep, tally}
 use Rattle.lists.proofs.Keep.{tally-through, tally-stopped}
-use Rattle.demands.specs.Stream.{once, sum}
+use Rattle.demands.specs.Stream.{once, sumOver}
 
 module _ {E : Type 0} (same : E → E → Bool) (same-refl : (x : E) → same x x ≡ true) (same-true : (x y : E) → same x y ≡ true → x ≡ y) where
   -- each element that occurs stands once among them
@@ -35,19 +35,19 @@ module _ {E : Type 0} (same : E → E → Bool) (same-refl : (x : E) → same x 
       go false h e = tally-through (λ (y : E). same y z) (λ (y : E). not (same y x)) (lets h) (once same xs) ∙ e
 
   -- of a sum over elements, the terms of one
-  pub sum-one : (f : E → ℕ) (z : E) (xs : List E) → sum (λ (x : E). cond (same x z) (f x) 0) xs ≡ tally (λ (x : E). same x z) xs * f z
+  pub sum-one : (f : E → ℕ) (z : E) (xs : List E) → sumOver (λ (x : E). cond (same x z) (f x) 0) xs ≡ tally (λ (x : E). same x z) xs * f z
   sum-one f z [] = omega arith
   sum-one f z (x ∷ xs) = go (same x z) refl (sum-one f z xs)
     where
-      go : (b : Bool) → same x z ≡ b → sum (λ (x : E). cond (same x z) (f x) 0) xs ≡ tally (λ (x : E). same x z) xs * f z
-          → cond b (f x) 0 + sum (λ (x : E). cond (same x z) (f x) 0) xs ≡ cond b (suc (tally (λ (x : E). same x z) xs)) (tally (λ (x : E). same x z) xs) * f z
+      go : (b : Bool) → same x z ≡ b → sumOver (λ (x : E). cond (same x z) (f x) 0) xs ≡ tally (λ (x : E). same x z) xs * f z
+          → cond b (f x) 0 + sumOver (λ (x : E). cond (same x z) (f x) 0) xs ≡ cond b (suc (tally (λ (x : E). same x z) xs)) (tally (λ (x : E). same x z) xs) * f z
       go true h e = rw (same-true x z h, e) (omega arith)
       go false h e = rw e (omega arith)
 
-pub sum-same : {X : Type 0} (f g : X → ℕ) → ((x : X) → f x ≡ g x) → (xs : List X) → sum f xs ≡ sum g xs
+pub sum-same : {X : Type 0} (f g : X → ℕ) → ((x : X) → f x ≡ g x) → (xs : List X) → sumOver f xs ≡ sumOver g xs
 sum-same f g h [] = refl
 sum-same f g h (x ∷ xs) = rw (h x, sum-same f g h xs)
 
-pub sum-none : {X : Type 0} (xs : List X) → sum (λ (x : X). 0) xs ≡ 0
+pub sum-none : {X : Type 0} (xs : List X) → sumOver (λ (x : X). 0) xs ≡ 0
 sum-none [] = refl
 sum-none (x ∷ xs) = omega (arith, sum-none xs)

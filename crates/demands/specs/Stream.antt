@@ -34,15 +34,16 @@ streamFrom {X} same element span xs = record {
   count = λ e t. tally (λ (x : X). same (element x) e && holdsAt t (span x)) xs;
 }
 
-abbrev pub sum : {X : Type 0} → (X → ℕ) → List X → ℕ
-sum f [] = 0
-sum f (x ∷ xs) = f x + sum f xs
+-- f of each element, added up
+abbrev pub sumOver : {X : Type 0} → (X → ℕ) → List X → ℕ
+sumOver f [] = 0
+sumOver f (x ∷ xs) = f x + sumOver f xs
 
 -- Definition 8.5: with a predicate P and a result function r, the join of two logical streams holds e at t as often as
 -- the sum of n₁ · n₂ over all (e₁, t, n₁) of the first and all (e₂, t, n₂) of the second with P(e₁, e₂) and e = r(e₁, e₂).
 unfoldable pub joined : {E₁ E₂ E : Type 0} → (E₁ → E₂ → Bool) → (E₁ → E₂ → E) → (E → E → Bool) → Stream E₁ → Stream E₂ → E → ℕ → ℕ
 joined {E₁} {E₂} P r same S₁ S₂ e t =
-    sum (λ (e₁ : E₁). sum (λ (e₂ : E₂). cond (P e₁ e₂ && same (r e₁ e₂) e) (S₁ .count e₁ t * S₂ .count e₂ t) 0) (S₂ .elements)) (S₁ .elements)
+    sumOver (λ (e₁ : E₁). sumOver (λ (e₂ : E₂). cond (P e₁ e₂ && same (r e₁ e₂) e) (S₁ .count e₁ t * S₂ .count e₂ t) 0) (S₂ .elements)) (S₁ .elements)
 
 -- ---- of entries and of pairs
 
