@@ -2,3 +2,4 @@ pub mod Laws
 pub mod Onward
 pub mod Rows
 pub mod Unique
+pub mod Due

@@ -1,6 +1,6 @@
 -- Each journal is either open, with its clock, or closed.
 use Prim.Native.Nat.{ℕ, _+_}
-use mathlib.Core.Bool.{Bool, true, false}
+use mathlib.Core.Bool.{Bool, true, false, _&&_}
 use mathlib.Core.List.{List, [], _∷_}
 use lib.Dec.{ltb, leb}
 use Rattle.pairing.specs.declared.Entry.{Entry}
@@ -20,6 +20,10 @@ wanted Closed e = false
 abbrev pub below : Gate → ℕ → Bool
 below (Open clock) t = ltb t clock
 below Closed t = true
+
+-- what falls due at a time, a pair at its start, is due when that time is below the clock of every open journal
+abbrev pub due : {A : Type 0} → (A → ℕ) → Gate → Gate → A → Bool
+due at a b x = below a (at x) && below b (at x)
 
 -- a start that does not pass the clock, if its journal is open
 abbrev pub notPast : Gate → ℕ → Bool

@@ -34,8 +34,7 @@ use Rattle.pairing.proofs.Arrival.{pairing, newPairs-map}
 use Rattle.pairing.proofs.Pairs.{strict-comesBefore, before-start}
 use Rattle.area.specs.Area.{heldIn}
 use Rattle.journal.specs.declared.Gate.{Gate}
-use Rattle.journal.specs.Journal.{below}
-use Rattle.journal.proofs.Laws.{below-down}
+use Rattle.journal.proofs.Due.{due-down}
 use Rattle.queue.specs.declared.Queue.{Queue}
 use Rattle.queue.specs.Queue.{pairIn, rowOf, places, waiting, queueOf, rowsOf, Holds, ready, soundPair, isZero, isBlank, soundQueue}
 
@@ -134,12 +133,9 @@ unfolding soundQueue
 sound-in-order ofA ofB queue rows e = and-left _ _ (and-right (allOf (soundPair ofA ofB) (waiting queue rows)) _ (and-right (leb (queue .count) places) _ e))
 
 -- a pair before a ready one is ready
-pub ready-down : (a b : Gate) (p q : Pair) → comesBefore p q ≡ true → Down (ready a b) p q
+ready-down : (a b : Gate) (p q : Pair) → comesBefore p q ≡ true → Down (ready a b) p q
 unfolding ready
-ready-down a b p q e f =
-    let s = before-start p q e in
-    let u = q .meeting .start in
-    rw (below-down a (p .meeting .start) u s (and-left (below a u) (below b u) f), below-down b (p .meeting .start) u s (and-right (below a u) (below b u) f))
+ready-down = due-down (λ (p : Pair). p .meeting .start) comesBefore before-start
 
 module _ (queue : Queue) (rows : Rows) (h : Holds queue rows) where
   pub holds-length : length rows ≡ places

@@ -11,7 +11,7 @@ use Rattle.pairing.specs.declared.Pair.{Pair}
 use Rattle.pairing.specs.declared.Partner.{Partner}
 use Rattle.pairing.specs.Pair.{comesBefore}
 use Rattle.journal.specs.declared.Gate.{Gate}
-use Rattle.journal.specs.Journal.{below}
+use Rattle.journal.specs.Journal.{due}
 use Rattle.queue.specs.declared.Queue.{Queue}
 
 -- a place holds start, end, A ordinal, B ordinal, A key, B key, A value and B value
@@ -46,7 +46,7 @@ Holds queue rows = Stores pairIn rowOf places 8 (queue .count) rows
 
 -- A waiting pair is ready when its start is below the clock of every open journal; with both closed, all are ready.
 unfoldable pub ready : Gate → Gate → Pair → Bool
-ready a b p = below a (p .meeting .start) && below b (p .meeting .start)
+ready = due (λ (p : Pair). p .meeting .start)
 
 -- Waiting pairs have proper intervals and ordinals below the counts.
 abbrev pub soundPair : ℕ → ℕ → Pair → Bool
