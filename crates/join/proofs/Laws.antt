@@ -2,17 +2,17 @@
 use Prim.Native.Nat.{ℕ, _+_, _≤_, _<_}
 use native.Mathlib.Omega.{arith}
 use mathlib.Core.Bool.{Bool, true, false, cond, not, _&&_, false≢true}
-use mathlib.Core.List.{List, [], _∷_, _++_, append-nil, map}
+use mathlib.Core.List.{List, [], _∷_, _++_}
 use mathlib.Core.Path.{_≡_, refl, sym, ap, _∙_}
 use lib.Dec.{ltb, leb}
 use lib.ListN.{length, drop, getD, length-map}
 use lib.Seq.{drop-cons}
-use borrow.Author.Tests.{ltb-true, leb-true, leb-false, le-ltb, lt-ltb, lt-leb, le-leb}
+use borrow.Author.Tests.{leb-false, le-ltb, lt-ltb}
 use Rattle.interval.specs.Interval.{properOf}
 use Rattle.lists.specs.Judge.{chain}
 use Rattle.lists.specs.Sort.{insertAllBy}
 use Rattle.lists.specs.Store.{Rows}
-use Rattle.lists.proofs.All.{Each, each-map}
+use Rattle.lists.proofs.All.{each-map}
 use Rattle.lists.proofs.Bools.{and-left, and-right}
 use Rattle.lists.proofs.Judge.{chain-each, each-chain}
 use Rattle.lists.proofs.Keep.{keep-length}

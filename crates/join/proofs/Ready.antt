@@ -5,7 +5,7 @@ use mathlib.Core.Bool.{Bool, true, false}
 use mathlib.Core.List.{List, [], _∷_, _++_, append-nil, map}
 use mathlib.Core.Path.{_≡_, refl, sym, ap, _∙_}
 use lib.ListN.{length, take, drop}
-use lib.Seq.{drop-drop, take-append-le}
+use lib.Seq.{drop-drop}
 use Rattle.lists.specs.Keep.{keep}
 use Rattle.lists.proofs.All.{All, all-any}
 use Rattle.lists.proofs.Keep.{keep-length}
@@ -26,7 +26,7 @@ use Rattle.journal.proofs.Onward.{Onward, onward-same, onward-closed, onward-op
 use Rattle.journal.proofs.Rows.{accepted-rows, unless-refused}
 use Rattle.queue.specs.Queue as queue
 use Rattle.queue.proofs.Sound.{waiting-stored, queue-waiting}
-use Rattle.queue.proofs.Ready.{keep-ready-comm, ready-ahead, ready-split, ready-head, ready-grows}
+use Rattle.queue.proofs.Ready.{keep-ready-comm, ready-ahead, ready-head, ready-grows}
 use Rattle.join.specs.declared.Took.{Took}
 use Rattle.join.specs.declared.Took.the-variants.{Handed}
 use Rattle.join.specs.State.{State, Sound, View, view, stateOf}
@@ -203,8 +203,3 @@ takes-together (suc k) s h few = go (readyOf s) refl (takes-together k (without 
           ap (λ (o : Outcome Took). takenFrom k (o .state)) (one .0) ∙ then .0 ∙ without-without k 1 s ∙ ap (λ (n : ℕ). without n s) up,
           rw (one .0, e, then .1, one .1),
         )
-
--- the first k ready ones are the first k that wait
-pub ready-front : (s : State) → Sound s → (k : ℕ) → k ≤ length (readyOf s) → take k (waitingIn s) ≡ take k (readyOf s)
-ready-front s h k few =
-    ap (take k) (ready-split (s .join .a .journal .gate) (s .join .b .journal .gate) (waitingIn s) (ascending s h)) ∙ take-append-le k (readyOf s) _ few

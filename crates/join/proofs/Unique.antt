@@ -1,5 +1,4 @@
 -- The contract of each public call allows one answer, one join and one content of the places that it is lent.
-use mathlib.Core.Path.{_≡_}
 use denote.Ref.{now}
 use Rattle.unique.specs.Unique.{OneResult, OneOutcome}
 use Rattle.unique.proofs.Equation.{one-by-equation, outcome-by-equation, agree}

@@ -54,10 +54,6 @@ unfolding stateOf
 stateOf-across A v = refl
 stateOf-across B v = refl
 
--- what the other side sees of the state that a side sees so
-pub view-across-stateOf : (side : Side) (v : View) → view (across side) (stateOf side v) ≡ turned v
-view-across-stateOf side v = view-across side (stateOf side v) ∙ ap turned (view-stateOf side v)
-
 -- either side sees the pairs that wait
 pub view-waiting : (side : Side) (s : State) → view side s .waiting ≡ waitingIn s
 unfolding view

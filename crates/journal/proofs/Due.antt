@@ -24,7 +24,7 @@ module _ {A : Type 0} (at : A → ℕ) where
   keep-due-comm a b xs = keep-same-test (due at a b) (due at b a) (due-comm a b) xs
 
   -- what is due stays due
-  pub due-onward : (a b nextA nextB : Gate) → Onward a nextA → Onward b nextB → (x : A) → due at a b x ≡ true → due at nextA nextB x ≡ true
+  due-onward : (a b nextA nextB : Gate) → Onward a nextA → Onward b nextB → (x : A) → due at a b x ≡ true → due at nextA nextB x ≡ true
   due-onward a b nextA nextB onA onB x e =
       rw (below-onward a nextA onA (at x) (and-left (below a (at x)) (below b (at x)) e), below-onward b nextB onB (at x) (and-right (below a (at x)) (below b (at x)) e))
 

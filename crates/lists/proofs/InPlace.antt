@@ -5,7 +5,7 @@ use native.Mathlib.Numerals.{add-one}
 use native.Mathlib.Omega.{arith}
 use mathlib.Core.Bool.{Bool, true, false}
 use mathlib.Core.List.{List, [], _∷_, _++_, append-assoc}
-use mathlib.Core.Path.{_≡_, refl, sym, ap, _∙_}
+use mathlib.Core.Path.{_≡_, sym, ap, _∙_}
 use lib.ListN.{length, replicate, take, drop, set, getD, length-append, length-replicate, length-take, length-drop, take-append-drop, replicate-append-replicate}
 use lib.Seq.{slice, length-slice, drop-cons, getD-drop, getD-append-add, set-at, take-at, drop-at, take-suc-set, drop-set-lt, drop-drop, drop-append-add}
 use Rattle.lists.specs.Keep.{keep}

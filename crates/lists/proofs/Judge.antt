@@ -3,11 +3,11 @@ use Prim.Native.Nat.{ℕ, zero, suc, _+_, _-_, _≤_, _<_, max}
 use native.Mathlib.Omega.{arith}
 use native.Mathlib.Nat.{not-suc-le-zero, le-of-suc-le-suc}
 use native.Mathlib.Numerals.{add-one}
-use mathlib.Core.Bool.{Bool, true, false, _&&_, and-assoc, and-true, and-false, false≢true}
+use mathlib.Core.Bool.{Bool, true, false, _&&_, and-assoc, and-true, and-false}
 use mathlib.Core.List.{List, [], _∷_, _++_, map}
 use mathlib.Core.Path.{_≡_, refl, sym, ap, _∙_}
 use lib.Dec.{leb}
-use lib.ListN.{length, replicate, take, drop, getD, length-take}
+use lib.ListN.{length, replicate, take, getD, length-take}
 use lib.Seq.{slice, slice-cons, take-suc, drop-append-le}
 use borrow.Author.Tests.{leb-true, leb-false}
 use Rattle.lists.specs.Judge.{allOf, chainFrom, chain}

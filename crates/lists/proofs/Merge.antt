@@ -1,17 +1,16 @@
 -- Laws of a merge where the list stands: new elements, in ascending order, put into their places among old ones from the last down, each old one moved once at the most.
 use Prim.Native.Nat.{ℕ, zero, suc, _+_, _-_, _≤_, _<_}
 use native.Mathlib.Nat.{not-suc-le-zero, le-of-suc-le-suc}
-use native.Mathlib.Numerals.{add-one}
 use native.Mathlib.Omega.{arith}
 use mathlib.Core.Bool.{Bool, true, false, cond, true≢false}
 use mathlib.Core.List.{List, [], _∷_, _++_, append-assoc, map, map-append}
 use mathlib.Core.Logic.{inl}
 use mathlib.Core.Path.{_≡_, refl, sym, ap, _∙_}
 use lib.ListN.{length, take, drop, set, getD, length-append, length-take, length-map, length-set, take-append-drop}
-use lib.Seq.{slice, slice-cons, slice-empty, drop-cons, getD-take, take-take, take-set-le, drop-set-lt, getD-set-same, lt-length-set, length-take-le}
+use lib.Seq.{slice, slice-cons, slice-empty, drop-cons, getD-take, take-take, take-set-le, drop-set-lt, getD-set-same, lt-length-set}
 use Rattle.lists.specs.Keep.{keep}
 use Rattle.lists.specs.Sort.{insertBy, insertAllBy}
-use Rattle.lists.proofs.All.{All, Each, all-map, all-getD, all-take, each-map, each-first, each-last}
+use Rattle.lists.proofs.All.{All, all-map, all-getD, each-first, each-last}
 use Rattle.lists.proofs.Keep.{keep-more, keep-same, keep-bound}
 use Rattle.lists.proofs.Order.{StrictOrder, Apart, Ascending}
 use Rattle.lists.proofs.Sort.{insertBy-past, insertBy-length}

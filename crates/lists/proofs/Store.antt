@@ -1,11 +1,11 @@
 -- Laws of a list kept in places: `padTo`, `content`, `stored` and `Stores`.
-use Prim.Native.Nat.{ℕ, zero, suc, _+_, _-_, _≤_, _<_, min}
+use Prim.Native.Nat.{ℕ, zero, suc, _+_, _-_, _≤_, _<_}
 use native.Mathlib.Omega.{arith}
 use mathlib.Core.Bool.{Bool, true}
 use mathlib.Core.List.{List, [], _∷_, _++_, append-assoc, map, map-append}
 use mathlib.Core.Path.{_≡_, refl, sym, ap, _∙_}
 use lib.ListN.{length, replicate, take, drop, set, getD, length-append, length-replicate, length-map, length-take, length-drop, take-append-drop}
-use lib.Seq.{take-append-seam, drop-append-seam, set-append-seam, take-at, drop-at, length-take-le}
+use lib.Seq.{set-append-seam, take-at, drop-at}
 use Rattle.lists.specs.Judge.{allOf}
 use Rattle.lists.specs.Keep.{keep}
 use Rattle.lists.specs.Store.{padTo, Rows, content, stored, Stores}

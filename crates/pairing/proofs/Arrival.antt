@@ -9,7 +9,6 @@ use Rattle.lists.specs.Keep.{keep}
 use Rattle.lists.proofs.All.{All, Each, all-map₂, all-mapped, each-mapped}
 use Rattle.lists.proofs.Keep.{keep-passes, all-keep, each-keep}
 use Rattle.lists.proofs.Order.{Apart, Ascending}
-use Rattle.pairing.specs.declared.Entry.{Entry}
 use Rattle.pairing.specs.declared.Numbered.{Numbered}
 use Rattle.pairing.specs.declared.Pair.{Pair}
 use Rattle.pairing.specs.declared.Rule.{Rule}

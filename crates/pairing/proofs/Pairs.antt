@@ -7,7 +7,7 @@ use lib.Dec.{leb, eqb}
 use borrow.Author.Tests.{eqb-true, eq-eqb}
 use Rattle.interval.specs.declared.Interval.{Interval}
 use Rattle.interval.specs.Interval.{holdsAt, properOf, meetingOf}
-use Rattle.interval.proofs.Laws.{holds-proper, meeting-holds, meeting-comm, meeting-start, meeting-ended}
+use Rattle.interval.proofs.Laws.{holds-proper, meeting-holds, meeting-comm, meeting-ended}
 use Rattle.lists.proofs.Bools.{and-left, and-right, bool-ext}
 use Rattle.lists.proofs.Order.{StrictOrder, Apart, Compared, less, equal, more, compared, strict-ascending, strict-neither, ascending-less, ascending-equal, ascending-more, apart-here, apart-next}
 use Rattle.pairing.specs.declared.Entry.{Entry}
@@ -37,9 +37,6 @@ module _ (rule : Rule) (a b : Entry) where
   pairs-apart : properOf met ≡ false → pairs rule a b ≡ false
   unfolding pairs
   pairs-apart h = rw (h, and-false (properOf (b .span)), and-false (properOf (a .span)))
-
-  pub pairs-ended-a : a .span .end ≤ b .span .start → pairs rule a b ≡ false
-  pairs-ended-a h = pairs-apart (meeting-ended (a .span) (b .span) h)
 
   pub pairs-ended-b : b .span .end ≤ a .span .start → pairs rule a b ≡ false
   pairs-ended-b h = pairs-apart (ap properOf (meeting-comm (a .span) (b .span)) ∙ meeting-ended (b .span) (a .span) h)

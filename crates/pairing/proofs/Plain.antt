@@ -4,12 +4,12 @@ use native.Mathlib.Omega.{arith}
 use native.Mathlib.Nat.{add-zero, zero-add}
 use mathlib.Core.Bool.{Bool, true, false, cond, _&&_}
 use mathlib.Core.List.{List, [], _∷_, _++_, flatMap, Perm}
-use mathlib.Core.Path.{_≡_, refl, sym, ap, _∙_}
+use mathlib.Core.Path.{_≡_, refl, ap, _∙_}
 use lib.ListN.{length}
 use Rattle.interval.specs.Interval.{holdsAt, meetingOf}
 use Rattle.lists.specs.Keep.{keep}
-use Rattle.lists.specs.Sort.{insertAllBy, sortBy}
-use Rattle.lists.proofs.All.{All, Each, all-any, all-map, each-map}
+use Rattle.lists.specs.Sort.{insertAllBy}
+use Rattle.lists.proofs.All.{All, Each, all-any, all-map}
 use Rattle.lists.proofs.FlatMap.{flatMap-same, all-flatMap, each-flatMap}
 use Rattle.lists.proofs.Grid.{grid-row, grid-column}
 use Rattle.lists.proofs.Keep.{keep-flatMap, keep-perm}

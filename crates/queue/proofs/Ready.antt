@@ -10,7 +10,7 @@ use Rattle.pairing.specs.Pair.{comesBefore}
 use Rattle.pairing.proofs.Pairs.{before-start}
 use Rattle.journal.specs.declared.Gate.{Gate}
 use Rattle.journal.specs.declared.Gate.the-variants.{Open}
-use Rattle.journal.proofs.Due.{keep-due-comm, due-onward, due-ahead, due-split, due-head, due-grows}
+use Rattle.journal.proofs.Due.{keep-due-comm, due-ahead, due-split, due-head, due-grows}
 use Rattle.journal.proofs.Onward.{Onward}
 use Rattle.queue.specs.Queue.{ready}
 
@@ -21,10 +21,6 @@ start p = p .meeting .start
 pub keep-ready-comm : (a b : Gate) (ps : List Pair) → keep (ready a b) ps ≡ keep (ready b a) ps
 unfolding ready
 keep-ready-comm = keep-due-comm start
-
-pub ready-onward : (a b nextA nextB : Gate) → Onward a nextA → Onward b nextB → (p : Pair) → ready a b p ≡ true → ready nextA nextB p ≡ true
-unfolding ready
-ready-onward = due-onward start
 
 pub ready-ahead : (a b : Gate) (time : ℕ) → Onward a (Open time) → (p : Pair) → time ≤ p .meeting .start → ready a b p ≡ false
 unfolding ready

@@ -4,7 +4,7 @@ use Prim.Native.Nat.{ℕ, _≤_, _-_}
 use native.Mathlib.Omega.{arith}
 use mathlib.Core.List.{_++_}
 use mathlib.Core.Path.{_≡_, refl, ap, _∙_}
-use lib.ListN.{length, replicate, take, drop}
+use lib.ListN.{replicate, take, drop}
 use Rattle.lists.proofs.InPlace.{blank-start, blank-step}
 use Rattle.area.proofs.blank.Statement.{statement}
 use Rattle.area.proofs.blank.Tie as tie

@@ -1,11 +1,11 @@
 -- `in_order` meets its contract. While it runs, the first i entries follow one another.
 use borrow.Author.Needs.{needs}
-use Prim.Native.Nat.{ℕ, _+_, _≤_, _<_, _-_, max}
+use Prim.Native.Nat.{ℕ, _≤_, _-_, max}
 use native.Mathlib.Omega.{arith}
-use mathlib.Core.Bool.{Bool, true, false}
+use mathlib.Core.Bool.{true}
 use mathlib.Core.List.{List, []}
-use mathlib.Core.Path.{_≡_, refl, sym, ap, _∙_}
-use lib.ListN.{length, take, drop, getD}
+use mathlib.Core.Path.{_≡_, sym, ap, _∙_}
+use lib.ListN.{take, getD}
 use borrow.Author.Tests.{not-true, not-false}
 use lib.Seq.{getD-take, length-take-le}
 use Rattle.lists.specs.Judge.{chain}

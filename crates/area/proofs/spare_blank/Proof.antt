@@ -1,11 +1,11 @@
 -- `spare_blank` meets its contract. While it runs, the spare places before i hold zeros.
 use borrow.Author.Needs.{needs}
-use Prim.Native.Nat.{ℕ, _+_, _≤_, _<_, _-_, max}
+use Prim.Native.Nat.{ℕ, _≤_, _-_}
 use native.Mathlib.Omega.{arith}
-use mathlib.Core.Bool.{Bool, true, false}
+use mathlib.Core.Bool.{true}
 use mathlib.Core.List.{List, []}
-use mathlib.Core.Path.{_≡_, refl, sym, ap, _∙_}
-use lib.ListN.{length, take, drop, getD}
+use mathlib.Core.Path.{_≡_, sym, ap, _∙_}
+use lib.ListN.{take, drop}
 use borrow.Author.Tests.{not-true, not-false}
 use lib.Seq.{slice, slice-empty, take-all}
 use Rattle.lists.specs.Judge.{allOf}

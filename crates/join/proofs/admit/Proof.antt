@@ -1,8 +1,5 @@
 -- `admit` meets its contract: each step leaves what the definition says of its part.
-use mathlib.Core.List.{List, [], _∷_, _++_}
-use mathlib.Core.Path.{_≡_, refl, sym, ap, _∙_}
-use native.Mathlib.Omega.{arith}
-use lib.ListN.{length}
+use mathlib.Core.Path.{refl, sym, _∙_}
 use Rattle.pairing.specs.declared.Numbered.{Numbered}
 use Rattle.area.specs.Area.{held}
 use Rattle.join.proofs.Laws.{formed-count, formed-ascending, admitted}

@@ -1,8 +1,8 @@
 -- `enter` meets its contract: a refusal leaves both halves as they stood, and what is not refused is admitted.
 use borrow.Author.Needs.{needs}
-use Prim.Native.Nat.{ℕ, _+_, _≤_, _<_}
+use Prim.Native.Nat.{_+_, _≤_, _<_}
 use native.Mathlib.Omega.{arith}
-use mathlib.Core.Path.{_≡_, refl, sym, ap, subst, _∙_}
+use mathlib.Core.Path.{sym, subst, _∙_}
 use lib.ListN.{length}
 use Rattle.journal.specs.declared.Answer.{Answer}
 use Rattle.journal.specs.Answer.{unlessRefused}
@@ -11,7 +11,7 @@ use Rattle.area.specs.Area.{heldIn, rowOf, partners, held}
 use Rattle.area.specs.Area.{places as area-places}
 use Rattle.area.proofs.Laws as area-laws
 use Rattle.queue.specs.Queue.{places}
-use Rattle.join.specs.State.{View, Leaves, seen}
+use Rattle.join.specs.State.{Leaves, seen}
 use Rattle.join.specs.Calls.{afterEntry}
 use Rattle.join.proofs.Laws.{first-tells, partners-few, leaves-all, answer-first, answer-full, answer-accepted}
 use Rattle.join.proofs.enter.Statement.{statement}

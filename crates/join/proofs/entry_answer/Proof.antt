@@ -1,7 +1,7 @@
 -- `entry_answer` meets its contract: the first test that passes gives its row's number.
 use borrow.Author.Needs.{needs}
 use mathlib.Core.Logic.{⊎-elim}
-use mathlib.Core.Path.{_≡_, sym, _∙_}
+use mathlib.Core.Path.{sym, _∙_}
 use borrow.Author.Tests.{not-true, not-false, le-leb, lt-leb}
 use Rattle.join.proofs.entry_answer.Statement.{statement}
 use Rattle.join.proofs.entry_answer.Tie as tie

@@ -1,12 +1,9 @@
 -- `hold_wanted` meets its contract: a wanted entry goes behind the others, another leaves the area as it is.
 use borrow.Author.Needs.{needs}
-use mathlib.Core.Bool.{true, false}
-use mathlib.Core.List.{List, [], _∷_, _++_, append-nil}
-use mathlib.Core.Path.{_≡_, sym, ap, _∙_}
+use mathlib.Core.List.{append-nil}
+use mathlib.Core.Path.{sym, _∙_}
 use Rattle.lists.proofs.Store.{content-length}
-use Rattle.pairing.specs.declared.Numbered.{Numbered}
-use Rattle.journal.specs.Journal.{wanted}
-use Rattle.area.specs.Area.{heldIn, rowOf, places, held, areaOf, rowsOf}
+use Rattle.area.specs.Area.{heldIn, rowOf, places, held}
 use Rattle.join.proofs.hold_wanted.Statement.{statement}
 use Rattle.join.proofs.hold_wanted.Tie as tie
 

@@ -1,6 +1,6 @@
 -- `shift` meets its contract, from what `clear` and `to` ensure.
 use borrow.Author.Needs.{needs}
-use mathlib.Core.Path.{_≡_, refl, ap}
+use mathlib.Core.Path.{refl, ap}
 use Rattle.area.specs.declared.Area.{Area}
 use Rattle.join.proofs.shift.Statement.{statement}
 use Rattle.join.proofs.shift.Tie as tie

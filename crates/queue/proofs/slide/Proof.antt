@@ -1,14 +1,14 @@
 -- `slide` meets its contract. While it runs, the pairs above k have been moved up, and p comes before each of them.
 use borrow.Author.Needs.{needs}
-use Prim.Native.Nat.{ℕ, suc, _+_, _-_, _≤_}
+use Prim.Native.Nat.{ℕ, suc, _-_, _≤_}
 use native.Mathlib.Omega.{arith}
-use mathlib.Core.Bool.{Bool, true, false}
-use mathlib.Core.List.{List, []}
+use mathlib.Core.Bool.{true, false}
+use mathlib.Core.List.{[]}
 use mathlib.Core.Logic.{⊎-elim}
-use mathlib.Core.Path.{_≡_, refl, sym, ap, _∙_}
-use lib.ListN.{length, getD, set}
+use mathlib.Core.Path.{_≡_, sym, ap, _∙_}
+use lib.ListN.{getD}
 use borrow.Author.Tests.{not-true, not-false}
-use Rattle.lists.proofs.Merge.{Sliding, Slid, slide-start, slide-step, slide-end}
+use Rattle.lists.proofs.Merge.{Sliding, slide-start, slide-step, slide-end}
 use Rattle.pairing.specs.declared.Pair.{Pair}
 use Rattle.pairing.specs.Pair.{comesBefore}
 use Rattle.queue.specs.Queue.{pairIn, rowOf}

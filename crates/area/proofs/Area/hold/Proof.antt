@@ -2,8 +2,8 @@
 use borrow.Author.Needs.{needs}
 use Prim.Native.Nat.{ℕ, _+_}
 use native.Mathlib.Omega.{arith}
-use mathlib.Core.List.{List, [], _∷_, _++_}
-use mathlib.Core.Path.{_≡_, sym, ap, _∙_}
+use mathlib.Core.List.{[], _∷_, _++_}
+use mathlib.Core.Path.{_≡_, ap, _∙_}
 use lib.ListN.{length, set, length-append}
 use Rattle.lists.proofs.Store.{content-length, stored-more}
 use Rattle.area.specs.Area.{heldIn, rowOf, places, held}

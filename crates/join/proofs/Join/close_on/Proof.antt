@@ -1,7 +1,6 @@
 -- `close_on` meets its contract: a closed journal refuses, an open one closes.
 use borrow.Author.Needs.{needs}
-use mathlib.Core.Bool.{Bool, cond}
-use mathlib.Core.Path.{_≡_, refl, sym, ap, _∙_}
+use mathlib.Core.Path.{refl, sym, ap, _∙_}
 use Rattle.journal.specs.declared.Answer.the-variants.{Accepted, Refused}
 use Rattle.journal.specs.declared.Gate.the-variants.{Closed}
 use Rattle.journal.specs.declared.Journal.{Journal}

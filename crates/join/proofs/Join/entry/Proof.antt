@@ -1,7 +1,6 @@
 -- `entry` meets its contract: 8, then 1, then whatever the side answers.
 use borrow.Author.Needs.{needs}
-use mathlib.Core.Bool.{true, false}
-use mathlib.Core.Path.{_≡_, sym, ap, _∙_}
+use mathlib.Core.Path.{sym, ap, _∙_}
 use borrow.Author.Tests.{not-true, not-false}
 use Rattle.pairing.specs.declared.Side.{Side}
 use Rattle.join.specs.State.{stateWith, view, stateOf}

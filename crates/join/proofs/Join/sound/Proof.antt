@@ -1,7 +1,7 @@
 -- `sound` meets its contract: each test that fails makes the definition false, and where all pass the places store what is held and waiting.
 use borrow.Author.Needs.{needs}
-use mathlib.Core.Bool.{Bool, true, false, false≢true}
-use mathlib.Core.Path.{_≡_, refl, sym, _∙_}
+use mathlib.Core.Bool.{false≢true}
+use mathlib.Core.Path.{_≡_, sym, _∙_}
 use borrow.Author.Tests.{le-leb, lt-leb}
 use Rattle.join.specs.State.{sound, stateWith}
 use Rattle.join.proofs.Join.sound.Statement.{statement}

@@ -1,6 +1,6 @@
 -- `take` meets its contract: 8 for an unsound state, else what the queue and the gates answer.
 use borrow.Author.Needs.{needs}
-use mathlib.Core.Path.{_≡_, sym, _∙_}
+use mathlib.Core.Path.{sym, _∙_}
 use borrow.Author.Tests.{not-true, not-false}
 use Rattle.join.specs.Calls.{takeCall}
 use Rattle.join.proofs.Join.take.Statement.{statement}

@@ -1,6 +1,5 @@
 -- `comes_before` meets its contract: the first number in which the pairs differ decides.
 use mathlib.Core.Path.{sym, _∙_}
-use Rattle.lists.specs.Sort.{neither}
 use Rattle.lists.proofs.Order.{ascending-differ, ascending-equal, ascending-last}
 use Rattle.pairing.specs.Pair.{comesBefore}
 use Rattle.pairing.proofs.Pair.comes_before.Statement.{statement}

@@ -1,10 +1,9 @@
 -- `first` meets its contract: the first place holds the first waiting pair.
 use borrow.Author.Needs.{needs}
-use Prim.Native.Nat.{ℕ}
 use native.Mathlib.Omega.{arith}
 use mathlib.Core.List.{[]}
-use mathlib.Core.Path.{_≡_, sym, ap, _∙_}
-use lib.ListN.{take, getD, List·getD-map}
+use mathlib.Core.Path.{sym, ap, _∙_}
+use lib.ListN.{take, List·getD-map}
 use lib.Seq.{getD-take}
 use Rattle.queue.specs.Queue.{pairIn}
 use Rattle.queue.proofs.Laws.{holds-length}

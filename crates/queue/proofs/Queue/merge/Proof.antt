@@ -1,11 +1,11 @@
 -- `merge` meets its contract. While it runs, the pairs of the held entries from i on are in their places; `gap` pairs and w waiting ones are left.
 use borrow.Author.Needs.{needs}
-use Prim.Native.Nat.{ℕ, suc, _+_, _-_, _≤_, _<_}
+use Prim.Native.Nat.{ℕ, suc, _+_, _-_, _≤_}
 use native.Mathlib.Omega.{arith}
-use mathlib.Core.Bool.{Bool, true, false}
+use mathlib.Core.Bool.{Bool, true}
 use mathlib.Core.List.{List, [], map}
-use mathlib.Core.Path.{_≡_, refl, sym, ap, _∙_, subst}
-use lib.ListN.{length, take, drop, getD, length-map, length-append}
+use mathlib.Core.Path.{_≡_, sym, ap, _∙_, subst}
+use lib.ListN.{length, take, drop, getD, length-map}
 use lib.Seq.{take-add}
 use Rattle.lists.specs.Keep.{keep}
 use Rattle.lists.proofs.All.{each-first}
@@ -16,9 +16,9 @@ use Rattle.pairing.specs.declared.Numbered.{Numbered}
 use Rattle.pairing.specs.declared.Pair.{Pair}
 use Rattle.pairing.specs.Pair.{pairs}
 use Rattle.pairing.specs.Side.{pairFrom, newPairs}
-use Rattle.area.specs.Area.{heldIn, held}
+use Rattle.area.specs.Area.{held}
 use Rattle.area.proofs.Laws as area-laws
-use Rattle.queue.specs.Queue.{rowOf, places}
+use Rattle.queue.specs.Queue.{rowOf}
 use Rattle.queue.proofs.Laws.{rowBefore, strict-rowBefore, meets, newRow, new-rows, new-ascending, holds-length, ascending-rows, merged, merged-count}
 use Rattle.queue.proofs.Queue.merge.Statement.{statement}
 use Rattle.queue.proofs.Queue.merge.Tie as tie

@@ -1,16 +1,15 @@
 -- `ready` meets its contract. While it runs, the first k pairs are ready; those behind one that is not ready are not ready either.
 use borrow.Author.Needs.{needs}
-use Prim.Native.Nat.{ℕ, _+_, _-_, _≤_, _<_}
+use Prim.Native.Nat.{ℕ, _-_, _≤_}
 use native.Mathlib.Omega.{arith}
-use mathlib.Core.Bool.{Bool, true, false}
+use mathlib.Core.Bool.{true}
 use mathlib.Core.List.{List, []}
 use mathlib.Core.Logic.{inl, inr}
 use mathlib.Core.Path.{_≡_, refl, sym, ap, _∙_}
-use lib.ListN.{length, take, getD}
+use lib.ListN.{take}
 use borrow.Author.Tests.{not-true, not-false}
 use Rattle.lists.specs.Judge.{allOf}
 use Rattle.lists.proofs.Judge.{allOf-more}
-use Rattle.pairing.specs.declared.Pair.{Pair}
 use Rattle.queue.specs.Queue.{pairIn, ready}
 use Rattle.queue.proofs.Laws.{holds-length, ready-first}
 use Rattle.queue.proofs.Queue.ready.Statement.{statement}

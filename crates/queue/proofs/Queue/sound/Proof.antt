@@ -1,6 +1,6 @@
 -- `sound` meets its contract: each test that fails makes the definition false, and where all pass the places store the waiting pairs.
 use borrow.Author.Needs.{needs}
-use mathlib.Core.Bool.{Bool, true, false}
+use mathlib.Core.Bool.{false}
 use mathlib.Core.Path.{_≡_, sym, _∙_}
 use borrow.Author.Tests.{lt-leb, le-leb}
 use Rattle.queue.specs.Queue.{soundQueue}
