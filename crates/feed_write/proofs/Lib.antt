@@ -1,4 +1,3 @@
-pub mod Puts
 pub mod Writings
 pub mod RoundTrip
 pub mod Unique

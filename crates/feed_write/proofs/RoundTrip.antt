@@ -8,6 +8,7 @@ use mathlib.Core.Path.{_≡_, refl, sym, ap, _∙_}
 use lib.Dec.{ltb}
 use lib.ListN.{length, drop, take}
 use borrow.Author.Tests.{ltb-false}
+use Rattle.lists.specs.Put.{put}
 use Rattle.pairing.specs.declared.Pair.{Pair}
 use Rattle.feed.specs.declared.PairReading.the-variants.{Found as FoundPair}
 use Rattle.feed.specs.declared.Reading.the-variants.{Found}
@@ -18,14 +19,13 @@ use Rattle.feed.specs.Kind.{pair}
 use Rattle.feed.specs.Record.{pairNumbers, recordBytes, pairBytes, streamKnown}
 use Rattle.feed.specs.Check.{firstOf, unless}
 use Rattle.feed.specs.Reading.{reading, pairReading}
-use Rattle.feed_write.specs.Put.{put}
 use Rattle.feed_write.specs.Writing.{writing, recordWriting, pairWriting}
+use Rattle.lists.proofs.Put.{put-first}
 use Rattle.feed.proofs.Numbers.{Bytes}
 use Rattle.feed.proofs.Fields.{Room}
 use Rattle.feed_write.proofs.Writings.{record-written, pair-written}
 use Rattle.feed.proofs.WriteRead.{Fitting, record-reads-in, pair-reads-in}
 use Rattle.feed.proofs.ReadWrite.{textBytes, record-back, pair-back, found-stream, text-short, found-length, pair-found-length}
-use Rattle.feed_write.proofs.Puts.{put-first}
 
 -- ---- written, then read: what a writing left in the buffer is read back from its start, with the place after it
 

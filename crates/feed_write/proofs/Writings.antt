@@ -5,13 +5,13 @@ use mathlib.Core.List.{List}
 use mathlib.Core.Path.{_≡_}
 use lib.ListN.{length}
 use borrow.Author.Tests.{lt-ltb, le-ltb}
+use Rattle.lists.specs.Put.{put}
 use Rattle.pairing.specs.declared.Pair.{Pair}
 use Rattle.feed.specs.declared.Record.{Record}
 use Rattle.feed_write.specs.declared.Writing.the-variants.{Written, Refused}
-use Rattle.feed_write.specs.Put.{put}
 use Rattle.feed_write.specs.Writing.{writing, recordWriting, pairWriting}
 use Rattle.feed.specs.Record.{recordBytes, pairBytes, streamKnown}
-use Rattle.feed_write.proofs.Puts.{put-first}
+use Rattle.lists.proofs.Put.{put-first}
 
 module _ (r : Record) (text buf : List ℕ) where
   pub stream-refused : streamKnown r ≡ false → recordWriting r text buf ≡ (Refused 1, buf)

@@ -15,8 +15,8 @@ ghost use mathlib.Core.Path.{_≡_};
 ghost use mathlib.Core.List.{[], _++_};
 ghost use Prim.Native.Nat.{_+_, _≤_};
 ghost use lib.ListN.{length};
+ghost use Rattle.lists.specs.Put.{put};
 ghost use Rattle.feed.specs.Number.{bytes};
-ghost use Rattle.feed_write.specs.Put.{put};
 ghost use Rattle.feed_write.specs.Writing.{recordWriting, pairWriting};
 
 // How many bytes a whole record takes, the two length bytes included.

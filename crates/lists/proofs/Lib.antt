@@ -11,3 +11,4 @@ pub mod Array
 pub mod InPlace
 pub mod Merge
 pub mod First
+pub mod Put

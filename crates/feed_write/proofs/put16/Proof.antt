@@ -7,8 +7,8 @@ use mathlib.Core.Path.{_≡_}
 use denote.Ref.{now}
 use Prim.Native.Nat.{_/_, _%_}
 use borrow.Author.Needs.{needs}
+use Rattle.lists.specs.Put.{put}
 use Rattle.feed.specs.Number.{bytes}
-use Rattle.feed_write.specs.Put.{put}
 use Rattle.feed_write.proofs.put16.Statement.{statement}
 use Rattle.feed_write.proofs.put16.Tie as tie
 

@@ -8,9 +8,9 @@ use lib.Arith.{mod-mul, digits-div}
 use lib.Dec.{lit<}
 use Prim.Native.Nat.{ℕ, _+_, _*_, _/_, _%_}
 use borrow.Author.Needs.{needs}
+use Rattle.lists.specs.Put.{put}
 use Rattle.feed.specs.Number.{bytes}
-use Rattle.feed_write.specs.Put.{put}
-use Rattle.feed_write.proofs.Puts.{put-put}
+use Rattle.lists.proofs.Put.{put-put}
 use Rattle.feed_write.proofs.put32.Statement.{statement}
 use Rattle.feed_write.proofs.put32.Tie as tie
 

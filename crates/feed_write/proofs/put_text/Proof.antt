@@ -6,7 +6,7 @@ use mathlib.Core.Path.{_≡_, refl, _∙_}
 use lib.ListN.{length, length-set}
 use lib.Seq.{paste, paste-zero, paste-suc, take-length}
 use denote.Ref.{now}
-use Rattle.feed_write.specs.Put.{put}
+use Rattle.lists.specs.Put.{put}
 use Rattle.feed_write.proofs.put_text.Statement.{statement}
 use Rattle.feed_write.proofs.put_text.Tie as tie
 

@@ -3,7 +3,7 @@ use borrow.Author.Needs.{needs}
 use native.Mathlib.Omega.{arith}
 use denote.Ref.{now}
 use Rattle.feed.specs.Number.{bytes}
-use Rattle.feed_write.proofs.Puts.{put-then}
+use Rattle.lists.proofs.Put.{put-then}
 use Rattle.feed_write.proofs.put_two.Statement.{statement}
 use Rattle.feed_write.proofs.put_two.Tie as tie
 

@@ -11,7 +11,7 @@ use Rattle.feed.specs.declared.Record.the-variants.{Close}
 use Rattle.feed_write.specs.declared.Writing.the-variants.{Written}
 use Rattle.feed.specs.Number.{bytes}
 use Rattle.feed.specs.Record.{recordBytes, streamKnown}
-use Rattle.feed_write.proofs.Puts.{put-then}
+use Rattle.lists.proofs.Put.{put-then}
 use Rattle.feed_write.proofs.Writings.{stream-refused, room-refused, record-written}
 use Rattle.feed_write.proofs.write_close.Statement.{statement}
 use Rattle.feed_write.proofs.write_close.Tie as tie

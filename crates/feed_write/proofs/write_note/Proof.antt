@@ -6,12 +6,12 @@ use mathlib.Core.Path.{_≡_, refl, sym, ap, _∙_}
 use Prim.Native.Nat.{ℕ, _+_}
 use lib.ListN.{length}
 use denote.Ref.{now}
+use Rattle.lists.specs.Put.{put}
 use Rattle.feed.specs.declared.Record.the-variants.{Note}
 use Rattle.feed_write.specs.declared.Writing.the-variants.{Written}
 use Rattle.feed.specs.Number.{bytes}
-use Rattle.feed_write.specs.Put.{put}
 use Rattle.feed.specs.Record.{recordBytes, streamKnown}
-use Rattle.feed_write.proofs.Puts.{put-then}
+use Rattle.lists.proofs.Put.{put-then}
 use Rattle.feed_write.proofs.Writings.{text-refused, room-refused, record-written}
 use Rattle.feed_write.proofs.write_note.Statement.{statement}
 use Rattle.feed_write.proofs.write_note.Tie as tie

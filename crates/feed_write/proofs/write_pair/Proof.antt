@@ -8,7 +8,7 @@ use denote.Ref.{now}
 use Rattle.feed_write.specs.declared.Writing.the-variants.{Written}
 use Rattle.feed.specs.Number.{bytes}
 use Rattle.feed.specs.Record.{pairBytes}
-use Rattle.feed_write.proofs.Puts.{put-then}
+use Rattle.lists.proofs.Put.{put-then}
 use Rattle.feed_write.proofs.Writings.{pair-room-refused, pair-written}
 use Rattle.feed_write.proofs.write_pair.Statement.{statement}
 use Rattle.feed_write.proofs.write_pair.Tie as tie
