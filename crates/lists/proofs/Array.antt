@@ -1,5 +1,5 @@
--- What the type of an array of rows tells of its value: how many rows there are, and how long each is.
-use Prim.Native.Nat.{ℕ}
+-- What the type of an array tells of its value: of rows, how many there are, and how long each is; of numbers, how many there are, and how large each can be.
+use Prim.Native.Nat.{ℕ, _<_}
 use mathlib.Core.List.{List, [], _∷_}
 use mathlib.Core.Path.{_≡_}
 use lib.ListN.{length}
@@ -24,3 +24,12 @@ each-wide width (row ∷ rows) (v ∷ vs) s = (s .0 .1 .0 .1, each-wide width ro
 
 pub array-shaped : (k width : ℕ) (places : Rows) (vs : List Val) → Is (Array (Array (UInt w32) width) k) places vs → Shaped k width places
 array-shaped k width places vs p = record { full = p .1 .0 .1; wide = each-wide width places (p .0) (p .1 .1) }
+
+each-small : (row : List ℕ) (vs : List Val) → shadow (each ℕ (UInt w32 .own) row vs) → All (λ (n : ℕ). n < 4294967296) row
+each-small [] vs s = tt
+each-small (n ∷ row) [] s = absurd s
+each-small (n ∷ row) (v ∷ vs) s = (s .0 .1, each-small row vs (s .1))
+
+-- an array of numbers: how many there are, and each below 2 to the power 32
+pub array-numbers : (k : ℕ) (row : List ℕ) (vs : List Val) → Is (Array (UInt w32) k) row vs → (length row ≡ k) × All (λ (n : ℕ). n < 4294967296) row
+array-numbers k row vs p = (p .1 .0 .1, each-small row (p .0) (p .1 .1))

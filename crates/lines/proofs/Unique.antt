@@ -1,0 +1,18 @@
+-- The contract of each public function allows one place behind what is put, and one content of the buffer.
+use mathlib.Core.List.{List}
+use Prim.Native.Nat.{ℕ}
+use denote.Ref.{now}
+use Rattle.unique.specs.Unique.{OneOutcome}
+use Rattle.unique.proofs.Equation.{agree-both}
+use Rattle.lines.proofs.put_number.Reads as put-number
+use Rattle.lines.proofs.put_two.Reads as put-two
+use Rattle.lines.proofs.put_row.Reads as put-row
+
+one-put-number : OneOutcome {Seen = ℕ × List ℕ} (λ κs place left. (place, now (left .0))) put-number.Post
+one-put-number κs args x y left other p q = agree-both p q
+
+one-put-two : OneOutcome {Seen = ℕ × List ℕ} (λ κs place left. (place, now (left .0))) put-two.Post
+one-put-two κs args x y left other p q = agree-both p q
+
+one-put-row : OneOutcome {Seen = ℕ × List ℕ} (λ κs place left. (place, now (left .0))) put-row.Post
+one-put-row κs args x y left other p q = agree-both p q
