@@ -17,7 +17,7 @@ use Rattle.feed.specs.Kind.{pair, kindsOf, fieldsIn}
 use Rattle.feed.specs.Record.{recordIn, pairFrom, streamKnown}
 use Rattle.feed.specs.Check.{firstOf, unless}
 use Rattle.feed.specs.Reading.{headOf, foundAt, readingOf, readingFrom, reading, pairReadingFrom, pairReading}
-use Rattle.feed.proofs.Heads.{Row, here, there, head-none, whole-elim, whole-row}
+use Rattle.feed.proofs.Heads.{inside-elim, Row, here, there, head-none, whole-elim, whole-row}
 
 -- the part of a feed from a place to its end is what is left there
 pub rest-all : (s : List ℕ) (at : ℕ) → take (length s - at) (drop at s) ≡ drop at s
@@ -83,6 +83,16 @@ found-elim s at {found} {next} h = go (headOf Input (drop at s)) refl h
     go (refusedHead number) w e = absurd (let z : _≡_ {A = ℕ} 0 1 = cc in omega arith)
     go noHead w e = absurd (let z : _≡_ {A = ℕ} 0 1 = cc in omega arith)
 
+-- it has 4 bytes at least, and ends within the feed
+pub found-ends : (s : List ℕ) (at : ℕ) {found : Record} {next : ℕ} → reading s at ≡ Found found next → (at + 4 ≤ next) × (next ≤ length s)
+found-ends s at {found} {next} h =
+    let f = found-elim s at h in
+    let whole = whole-elim Input (drop at s) (f .head) in
+    let enough = rw length-drop at (whole .enough) in
+    let size = inside-elim 2 66 (f .size) (whole .limits) in
+    let next-at = f .next-at in
+    (omega arith, omega arith)
+
 note-size : (kind size n : ℕ) (bs : List ℕ) → Row kind size (kindsOf Input) → recordIn kind size bs ≡ Note n → size ≡ n + 2
 unfolding recordIn
 note-size kind size n bs (here k w) e = absurd (let f = rw k at e in let z : _≡_ {A = ℕ} 0 1 = cc in omega arith)
@@ -98,6 +108,5 @@ pub note-ends : (s : List ℕ) (at : ℕ) {size next : ℕ} → reading s at ≡
 note-ends s at {size} {next} h =
     let f = found-elim s at h in
     let n = note-size (f .kind) (f .size) size (drop at s) (whole-row Input (drop at s) (f .head)) (sym (f .found-in)) in
-    let enough = rw length-drop at (whole-elim Input (drop at s) (f .head) .enough) in
     let next-at = f .next-at in
-    (omega arith, omega arith)
+    (omega arith, found-ends s at h .1)

@@ -64,7 +64,7 @@ fn put_two(buf: &mut [u8], at: usize, x: u32, y: u32)
 }
 
 // Some text into a buffer from a place on.
-fn put_text(buf: &mut [u8], at: usize, text: &[u8])
+pub fn put_text(buf: &mut [u8], at: usize, text: &[u8])
     requires { ⌜ at + length (now text) ≤ length (now buf) ⌝ }
     ensures { λ _. ⌜ now (buf .exit) ≡ put at (now (text .entry)) (now (buf .entry)) ⌝ }
 {

@@ -15,7 +15,7 @@ ghost use mathlib.Core.Bool.{Bool, true, not, _&&_};
 ghost use mathlib.Core.List.{[], _∷_, _++_};
 ghost use Prim.Native.Nat.{_+_, _≤_, _<_};
 ghost use lib.Dec.{leb};
-ghost use lib.ListN.{length};
+ghost use lib.ListN.{length, take};
 ghost use Rattle.interval.specs.Interval.{properOf};
 ghost use Rattle.lists.specs.Judge.{chain};
 ghost use Rattle.lists.specs.Keep.{keep};
@@ -267,7 +267,7 @@ fn shift(own: Half, other: Half, others: &mut area::Places, gate: Gate) -> Halve
 }
 
 // Journal A is stream 0, B is stream 1.
-fn side_of(stream: u16) -> Side
+pub fn side_of(stream: u16) -> Side
     ensures { λ r. ⌜ r ≡ sideOf stream ⌝ }
 {
     if stream == 0 { Side::A } else { Side::B }
@@ -450,6 +450,7 @@ impl Join {
     pub fn ready_on(self, rows: &queue::Places) -> usize
         requires { ⌜ (the_queue.Holds (self .queue) (now rows)) × (chain comesBefore (the_queue.waiting (self .queue) (now rows)) ≡ true) ⌝ }
         ensures { λ r. ⌜ r ≡ length (keep (the_queue.ready (self .a .journal .gate) (self .b .journal .gate)) (the_queue.waiting (self .queue) (now (rows .entry)))) ⌝ }
+        ensures { λ r. ⌜ take r (the_queue.waiting (self .queue) (now (rows .entry))) ≡ keep (the_queue.ready (self .a .journal .gate) (self .b .journal .gate)) (the_queue.waiting (self .queue) (now (rows .entry))) ⌝ }
     {
         let journal_a = self.a.journal;
         let gate_a = journal_a.gate;

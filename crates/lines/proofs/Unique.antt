@@ -15,4 +15,4 @@ one-put-two : OneOutcome {Seen = ℕ × List ℕ} (λ κs place left. (place, no
 one-put-two κs args x y left other p q = agree-both p q
 
 one-put-row : OneOutcome {Seen = ℕ × List ℕ} (λ κs place left. (place, now (left .0))) put-row.Post
-one-put-row κs args x y left other p q = agree-both p q
+one-put-row κs args x y left other p q = agree-both (p .0, p .1 .0) (q .0, q .1 .0)

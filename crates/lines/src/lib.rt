@@ -56,6 +56,7 @@ pub fn put_row(out: &mut [u8], at: usize, row: [u32; 8]) -> usize
     requires { ⌜ at + 88 ≤ length (now out) ⌝ }
     ensures { λ r. ⌜ r ≡ at + length (line row) ⌝ }
     ensures { λ _. ⌜ now (out .exit) ≡ put at (line row) (now (out .entry)) ⌝ }
+    ensures { λ r. ⌜ r ≤ at + 88 ⌝ }
 {
     let mut next = at;
     let mut i = 0;

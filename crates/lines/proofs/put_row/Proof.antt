@@ -96,9 +96,11 @@ returns c =
     let at-loop = c .before .before .before .before .before .loop in
     let field = c .before .before .put-number2 in
     let numbers = array-numbers 8 (st .args .t3) _ (st .good .1 .1 .0) in
-    let e = last (st .args .t3) (at-loop .i) (numbers .0) (omega arith) in (
-      omega (arith, simp length-append at (ap length e)),
-      field .ensures .1 ∙ ap (λ (bs : List ℕ). put (at-loop .next) bs (at-loop .out)) (sym e) ∙ at-loop .inv .2,
+    let e = last (st .args .t3) (at-loop .i) (numbers .0) (omega arith) in
+    let few = row-few (st .args .t3) (numbers .0) (numbers .1) in
+    let long = simp length-append at (ap length e) in (
+      omega arith,
+      (field .ensures .1 ∙ ap (λ (bs : List ℕ). put (at-loop .next) bs (at-loop .out)) (sym e) ∙ at-loop .inv .2, omega arith),
     )
 
 pub put-row-spec : {M : Type 1} → statement M

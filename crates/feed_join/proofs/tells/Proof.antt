@@ -1,0 +1,20 @@
+-- `tells` meets its contract: each test decides where those before it fail.
+use borrow.Author.Tests.{le-leb, lt-leb}
+use Rattle.feed_join.specs.Step.{tells}
+use Rattle.feed_join.proofs.tells.Statement.{statement}
+use Rattle.feed_join.proofs.tells.Tie as tie
+
+returns : tie.Need-returns
+unfolding tells
+returns c = rw (c .if1 .taken)
+
+returns-2 : tie.Need-returns-2
+unfolding tells
+returns-2 c = rw (c .before .if1 .left, le-leb _ _ (c .if2 .taken))
+
+returns-3 : tie.Need-returns-3
+unfolding tells
+returns-3 c = rw (c .before .if1 .left, lt-leb _ _ (c .if2 .left))
+
+pub tells-spec : {M : Type 1} → statement M
+tells-spec = tie.close (tie.spec returns returns-2 returns-3)

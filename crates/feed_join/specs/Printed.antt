@@ -1,0 +1,108 @@
+-- What joinfeed prints of a feed, from its first byte to its last line.
+use Prim.Native.Nat.{ℕ, zero, suc, _+_}
+use mathlib.Core.Bool.{cond}
+use mathlib.Core.List.{List, [], _∷_, _++_, flatMap}
+use lib.ListN.{length, take, drop}
+use Rattle.pairing.specs.declared.Pair.{Pair}
+use Rattle.pairing.specs.declared.Rule.the-variants.{Equal}
+use Rattle.journal.specs.declared.Answer.{Answer}
+use Rattle.journal.specs.declared.Answer.the-variants.{Accepted, Refused}
+use Rattle.join.specs.State.{State, freshState}
+use Rattle.join.specs.Calls.{Outcome, outcome, entryCall, markCall, closeCall, readyOf, bothClosed, without}
+use Rattle.feed.specs.declared.Reading.{Reading}
+use Rattle.feed.specs.declared.Reading.the-variants.{Found, Refused as refusedReading, End}
+use Rattle.feed.specs.declared.Record.{Record}
+use Rattle.feed.specs.declared.Record.the-variants.{Entry, Mark, Close, Note}
+use Rattle.feed.specs.Record.{pairNumbers}
+use Rattle.feed.specs.Reading.{reading}
+use Rattle.lines.specs.Line.{line}
+
+-- Where a run stands: its join, how many records were accepted so far, notes included, and how many pair lines were printed.
+pub record Progress : Type 0 where
+  pub state : State
+  pub records : ℕ
+  pub pairs : ℕ
+
+-- It joins by equal keys.
+abbrev pub begun : Progress
+begun = record { state = freshState Equal; records = 0; pairs = 0 }
+
+-- ---- lines
+
+-- A line a pair: start, end, A ordinal, B ordinal, A key, B key, A value, B value.
+unfoldable pub pairLine : Pair → List ℕ
+pairLine p = line (pairNumbers p)
+
+abbrev pub pairLines : List Pair → List ℕ
+pairLines ps = flatMap pairLine ps
+
+-- the words that a last line begins with, in ASCII and a space behind: `done `, `open `, `refused `
+abbrev pub doneWord : List ℕ
+doneWord = 100 ∷ 111 ∷ 110 ∷ 101 ∷ 32 ∷ []
+
+abbrev pub openWord : List ℕ
+openWord = 111 ∷ 112 ∷ 101 ∷ 110 ∷ 32 ∷ []
+
+abbrev pub refusedWord : List ℕ
+refusedWord = 114 ∷ 101 ∷ 102 ∷ 117 ∷ 115 ∷ 101 ∷ 100 ∷ 32 ∷ []
+
+-- Its last line is `done`, records, pairs; with `open` in place of `done` if the feed ends and a journal is open.
+unfoldable pub endLine : Progress → List ℕ
+endLine p = cond (bothClosed (p .state)) doneWord openWord ++ line (p .records ∷ p .pairs ∷ [])
+
+-- Or `refused`, the number, records accepted before.
+unfoldable pub refusedLine : ℕ → Progress → List ℕ
+refusedLine number p = refusedWord ++ line (number ∷ p .records ∷ [])
+
+-- ---- a record
+
+-- what the join answers to a record; a note rides along and affects nothing
+abbrev pub heard : State → Record → Outcome Answer
+heard s (Entry stream e) = entryCall s stream e
+heard s (Mark stream time) = markCall s stream time
+heard s (Close stream) = closeCall s stream
+heard s (Note size) = outcome Accepted s
+
+-- what is done at a place of the feed
+pub data Deed : Type 0 where
+  -- a last line is printed
+  Ends : List ℕ → Deed
+  -- lines are printed, and the run goes on at the place of the next record, standing so
+  Goes : List ℕ → ℕ → Progress → Deed
+
+-- After each record it takes until nothing is ready
+abbrev pub onward : Progress → State → Progress
+onward p s = record { state = without (length (readyOf s)) s; records = suc (p .records); pairs = p .pairs + length (readyOf s) }
+
+-- and prints a line a pair.
+abbrev pub taken : Progress → ℕ → State → Deed
+taken p next s = Goes (pairLines (readyOf s)) next (onward p s)
+
+abbrev pub answered : Progress → ℕ → Answer → State → Deed
+answered p next Accepted s = taken p next s
+answered p next (Refused number) s = Ends (refusedLine number p)
+
+unfoldable pub deed : Progress → Reading → Deed
+deed p (Found found next) = answered p next (heard (p .state) found .answer) (heard (p .state) found .state)
+deed p (refusedReading number place) = Ends (refusedLine number p)
+deed p End = Ends (endLine p)
+
+-- ---- the whole run
+
+-- what is printed of what is left of a feed by a deed, and by what comes after it
+abbrev pub continued : (Progress → List ℕ → List ℕ) → List ℕ → Deed → List ℕ
+continued after rest (Ends lines) = lines
+continued after rest (Goes lines next p) = lines ++ after p (drop next rest)
+
+-- what is printed of what is left of a feed, in no more than so many records
+abbrev pub printedFrom : ℕ → Progress → List ℕ → List ℕ
+printedFrom zero p rest = []
+printedFrom (suc n) p rest = continued (printedFrom n) rest (deed p (reading rest 0))
+
+-- Bytes beyond the limit are not read, and the feed counts as ending there. Every record has a byte, so the feed has fewer records than it has bytes and one.
+unfoldable pub printed : ℕ → List ℕ → List ℕ
+printed limit feed = printedFrom (suc (length (take limit feed))) begun (take limit feed)
+
+-- The limit of joinfeed.
+abbrev pub readLimit : ℕ
+readLimit = 4294967295
