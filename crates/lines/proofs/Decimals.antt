@@ -1,5 +1,5 @@
 -- Laws of `decimal`: how many digits a number has, and which.
-use Prim.Native.Nat.{ℕ, zero, suc, _+_, _*_, _/_, _%_, _^_, _≤_, _<_}
+use Prim.Native.Nat.{ℕ, zero, suc, _/_, _^_, _≤_, _<_}
 use native.Mathlib.Nat.{pow-suc, one-le-pow, le-div-iff-mul-le, div-lt-iff-lt-mul}
 use native.Mathlib.Omega.{arith}
 use mathlib.Core.Bool.{Bool, true, false, cond}
@@ -10,13 +10,15 @@ use lib.ListN.{length, length-append}
 use borrow.Author.Tests.{ltb-false, le-ltb}
 use Rattle.lines.specs.Decimal.{lastDigit, decimalIn, decimal}
 
+length-more : (ds : List ℕ) (d : ℕ) → length (ds ++ (d ∷ [])) ≡ suc (length ds)
+length-more ds d = simp length-append (omega arith)
+
+-- ---- which digits
+
 -- the last k digits of a number
 abbrev pub lastDigits : ℕ → ℕ → List ℕ
 lastDigits zero n = []
 lastDigits (suc k) n = lastDigits k (n / 10) ++ (lastDigit n ∷ [])
-
-length-more : (ds : List ℕ) (d : ℕ) → length (ds ++ (d ∷ [])) ≡ suc (length ds)
-length-more ds d = simp length-append (omega arith)
 
 pub length-last-digits : (k n : ℕ) → length (lastDigits k n) ≡ k
 length-last-digits zero n = refl
@@ -35,6 +37,12 @@ decimal-in-last (suc m) n = go (ltb n 10) (decimal-in-last m (n / 10))
 pub decimal-last : (n : ℕ) → decimal n ≡ lastDigits (length (decimal n)) n
 unfolding decimal
 decimal-last n = decimal-in-last 20 n
+
+-- ---- how many digits
+
+pub decimal-some : (n : ℕ) → 0 < length (decimal n)
+unfolding decimal
+decimal-some n = rw (length-more (cond (ltb n 10) [] (decimalIn 19 (n / 10))) (lastDigit n)) (omega arith)
 
 decimal-in-few : (m k n : ℕ) → n < 10 ^ suc k → length (decimalIn m n) ≤ suc k
 decimal-in-few zero k n h = omega arith
@@ -57,17 +65,13 @@ decimal-in-many (suc m) (suc k) n less h =
     let more = decimal-in-many m k (n / 10) (omega arith) tenth in
     rw (le-ltb n 10 big) (simp length-append (omega arith))
 
--- a number below a power of ten has at most so many digits
+-- below ten to the power k at most k
 pub decimal-few : (n k : ℕ) → n < 10 ^ k → 0 < k → length (decimal n) ≤ k
 unfolding decimal
 decimal-few n zero h some = absurd (omega arith)
 decimal-few n (suc k) h some = decimal-in-few 20 k n h
 
-pub decimal-some : (n : ℕ) → 0 < length (decimal n)
-unfolding decimal
-decimal-some n = rw (length-more (cond (ltb n 10) [] (decimalIn 19 (n / 10))) (lastDigit n)) (omega arith)
-
--- a number from a power of ten on has more digits
+-- from ten to the power k on more than k
 pub decimal-many : (n k : ℕ) → k < 20 → 10 ^ k ≤ n → k < length (decimal n)
 unfolding decimal
 decimal-many n k less h = decimal-in-many 20 k n less h

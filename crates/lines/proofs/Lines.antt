@@ -14,10 +14,10 @@ use Rattle.lines.specs.Decimal.{decimal}
 use Rattle.lines.specs.Line.{line}
 use Rattle.lines.proofs.Decimals.{decimal-few}
 
--- ---- field by field
-
 length-field : (n b : ℕ) (rest : List ℕ) → length ((decimal n ++ (b ∷ [])) ++ rest) ≡ length (decimal n) + 1 + length rest
 length-field n b rest = simp length-append (omega arith)
+
+-- ---- field by field
 
 pub line-one : (n : ℕ) → line (n ∷ []) ≡ decimal n ++ (10 ∷ [])
 unfolding line
@@ -42,6 +42,8 @@ module _ (row : List ℕ) (i : ℕ) where
   line-from-last e =
       let none : drop (suc i) row ≡ [] = ap (λ (k : ℕ). drop k row) (sym (add-one i) ∙ sym e) ∙ drop-length row in
       ap line (drop-cons row i 0 (omega arith) ∙ ap (λ (ns : List ℕ). getD row i 0 ∷ ns) none) ∙ line-one (getD row i 0)
+
+-- ---- how long it is
 
 pub length-two : (n m : ℕ) → length (line (n ∷ m ∷ [])) ≡ length (decimal n) + 1 + (length (decimal m) + 1)
 length-two n m = ap length (line-two n m) ∙ simp length-append (omega arith)

@@ -4,7 +4,7 @@ use mathlib.Core.Bool.{cond}
 use mathlib.Core.List.{List, [], _∷_, _++_}
 use lib.Dec.{ltb}
 
--- the last digit of a number
+-- the last digit of a number, in ASCII
 abbrev pub lastDigit : ℕ → ℕ
 lastDigit n = 48 + n % 10
 

@@ -3,7 +3,6 @@ use Prim.Native.Nat.{ℕ, _+_, _-_, _≤_, _<_}
 use native.Mathlib.Omega.{arith}
 use mathlib.Core.List.{List, [], _∷_, _++_}
 use mathlib.Core.Path.{_≡_, refl, sym, ap, _∙_}
-use denote.Ref.{now}
 use lib.ListN.{length, drop, getD, length-append}
 use Rattle.lists.specs.Put.{put}
 use Rattle.lists.proofs.All.{all-getD}
@@ -58,7 +57,7 @@ loop-again : tie.Need-loop-again Inv-loop μ-loop
 loop-again c =
     let st = c .before .before .before .before .before .before .before in
     let row = st .args .t3 in
-    let numbers = array-numbers 8 (st .args .t3) _ (st .good .1 .1 .0) in
+    let numbers = array-numbers 8 row _ (st .good .1 .1 .0) in
     let few = row-few row (numbers .0) (numbers .1) in
     let at-loop = c .before .before .before .before .before .loop in
     let field = c .before .before .put-number in
