@@ -105,7 +105,7 @@ fn put_last(out: &mut [u8], word: &[u8], n: u64, m: u64) -> usize
     ensures { λ r. ⌜ r ≡ length (now (word .entry) ++ line (n ∷ m ∷ [])) ⌝ }
     ensures { λ _. ⌜ now (out .exit) ≡ put 0 (now (word .entry) ++ line (n ∷ m ∷ [])) (now (out .entry)) ⌝ }
 {
-    feed_write::put_text(out, 0, word);
+    lines::put_text(out, 0, word);
     lines::put_two(out, word.len(), n, m)
 }
 

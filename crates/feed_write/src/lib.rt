@@ -63,18 +63,6 @@ fn put_two(buf: &mut [u8], at: usize, x: u32, y: u32)
     put32(buf, at + 4, y);
 }
 
-// Some text into a buffer from a place on.
-pub fn put_text(buf: &mut [u8], at: usize, text: &[u8])
-    requires { ⌜ at + length (now text) ≤ length (now buf) ⌝ }
-    ensures { λ _. ⌜ now (buf .exit) ≡ put at (now (text .entry)) (now (buf .entry)) ⌝ }
-{
-    let mut i = 0;
-    while i < text.len() {
-        buf[at + i] = text[i];
-        i += 1;
-    }
-}
-
 // The length and the kind of a record, at the buffer's start.
 fn put_head(buf: &mut [u8], size: u16, kind: u16)
     requires { ⌜ 4 ≤ length (now buf) ⌝ }
@@ -144,7 +132,7 @@ pub fn write_note(buf: &mut [u8], text: &[u8]) -> Writing
         return Writing::Refused(12);
     }
     put_head(buf, (2 + size) as u16, NOTE);
-    put_text(buf, 4, text);
+    lines::put_text(buf, 4, text);
     Writing::Written(4 + size)
 }
 

@@ -7,26 +7,26 @@ use lib.ListN.{length, length-set}
 use lib.Seq.{paste, paste-zero, paste-suc, take-length}
 use denote.Ref.{now}
 use Rattle.lists.specs.Put.{put}
-use Rattle.feed_write.proofs.put_text.Statement.{statement}
-use Rattle.feed_write.proofs.put_text.Tie as tie
+use Rattle.lines.proofs.put_text.Statement.{statement}
+use Rattle.lines.proofs.put_text.Tie as tie
 
 abbrev Inv-loop : tie.InvT-loop
-Inv-loop buf₀ at text i₀ buf i = (i ≤ length text) × (buf ≡ paste buf₀ at text i) × (length buf ≡ length buf₀)
+Inv-loop out₀ at text i₀ out i = (i ≤ length text) × (out ≡ paste out₀ at text i) × (length out ≡ length out₀)
 
 abbrev μ-loop : tie.MeasureT-loop
-μ-loop buf₀ at text i₀ buf i = length text - i
+μ-loop out₀ at text i₀ out i = length text - i
 
 loop-holds : tie.Need-loop-holds Inv-loop μ-loop
-loop-holds c = (omega arith, paste-zero (now (c .args .buf)) (c .args .at) (now (c .args .text)), refl)
+loop-holds c = (omega arith, paste-zero (now (c .args .out)) (c .args .at) (now (c .args .text)), refl)
 
-shared-slice-read-buf : tie.Need-shared-slice-read-buf Inv-loop μ-loop
-shared-slice-read-buf c = omega arith
+shared-slice-read-out : tie.Need-shared-slice-read-out Inv-loop μ-loop
+shared-slice-read-out c = omega arith
 
-add-buf : tie.Need-add-buf Inv-loop μ-loop
-add-buf c = omega arith
+add-out : tie.Need-add-out Inv-loop μ-loop
+add-out c = omega arith
 
-slice-write-buf : tie.Need-slice-write-buf Inv-loop μ-loop
-slice-write-buf c = omega arith
+slice-write-out : tie.Need-slice-write-out Inv-loop μ-loop
+slice-write-out c = omega arith
 
 add-i : tie.Need-add-i Inv-loop μ-loop
 add-i c = omega arith
@@ -40,7 +40,7 @@ loop-again c =
     let at-loop = c .before .before .loop in
     let i = at-loop .i in (
       omega arith,
-      rw (add-one, at-loop .inv .1) (paste-suc (now (a .buf)) (a .at) (now (a .text)) i 0 (omega arith) (omega arith)),
+      rw (add-one, at-loop .inv .1) (paste-suc (now (a .out)) (a .at) (now (a .text)) i 0 (omega arith) (omega arith)),
       simp length-set (at-loop .inv .2),
     )
 
@@ -60,9 +60,9 @@ put-text-spec =
     Inv-loop
     μ-loop
     loop-holds
-    shared-slice-read-buf
-    add-buf
-    slice-write-buf
+    shared-slice-read-out
+    add-out
+    slice-write-out
     add-i
     loop-less
     loop-again
