@@ -1,4 +1,5 @@
 pub mod Heard
 pub mod Lines
+pub mod Moves
 pub mod Steps
 pub mod Windows

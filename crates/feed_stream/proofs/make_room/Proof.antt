@@ -1,0 +1,28 @@
+-- `make_room` meets its contract: what is filled is a first part of the buffer.
+use borrow.Author.Needs.{needs}
+use mathlib.Core.Path.{sym}
+use denote.Ref.{now}
+use lib.Seq.{length-take-le}
+use Rattle.feed_stream.proofs.make_room.Statement.{statement}
+use Rattle.feed_stream.proofs.make_room.Tie as tie
+
+sub-if1 : tie.Need-sub-if1
+sub-if1 c = search needs
+
+slice-aggregate-write-all : tie.Need-slice-aggregate-write-all
+slice-aggregate-write-all c =
+    let st = c .before .before .before in
+    sym (length-take-le (st .args .filled) (now (st .args .out)) (st .pre .0))
+
+write-all-requires : tie.Need-write-all-requires
+write-all-requires c κs = search needs
+
+returns : tie.Need-returns
+returns c = search needs
+
+returns-2 : tie.Need-returns-2
+returns-2 c = search needs
+
+pub make-room-spec : {M : Type 1} → statement M
+make-room-spec =
+    tie.close (tie.spec sub-if1 slice-aggregate-write-all write-all-requires returns returns-2)

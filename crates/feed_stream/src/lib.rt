@@ -1,0 +1,146 @@
+// Standard input joined through a window of bounded size, and what is printed of it written to standard output.
+use feed_join::Counts;
+use feed_join::ROOM;
+use feed_join::Stepped;
+use feed_join::Went;
+use feed_join::step;
+use join::Join;
+use libc::STDIN_FILENO;
+use libc::STDOUT_FILENO;
+use pairing::Rule;
+ghost use mathlib.Core.Path.{_≡_};
+ghost use mathlib.Core.Bool.{true, false};
+ghost use mathlib.Core.List.{_++_};
+ghost use mathlib.Core.Logic.{_⊎_};
+ghost use Prim.Native.Nat.{_+_, _-_, _≤_, _<_};
+ghost use lib.ListN.{length, take, drop};
+ghost use lib.Seq.{slice};
+ghost use Rattle.feed_join.specs.Step.{effectWith, stepped, progressWith, Kept, room};
+
+// Which bytes of the window are not used yet, and whether the input is known to end behind them.
+struct Unused {
+    at: usize,
+    end: usize,
+    ended: bool,
+}
+
+// The bytes from one place up to another moved to the front.
+fn move_front(window: &mut [u8], at: usize, end: usize)
+    requires { ⌜ (at ≤ end) × (end ≤ length (now window)) ⌝ }
+    ensures { λ _. ⌜ now (window .exit) ≡ slice at end (now (window .entry)) ++ drop (end - at) (now (window .entry)) ⌝ }
+{
+    let mut i = at;
+    while i < end {
+        let byte = window[i];
+        window[i - at] = byte;
+        i += 1;
+    }
+}
+
+// What is not used moved to the front, and one read behind it. A read that fails counts as the end of the input.
+fn refill(window: &mut [u8], at: usize, end: usize) -> Unused
+    requires { ⌜ (at ≤ end) × (end ≤ length (now window)) ⌝ }
+    ensures { λ r. ⌜ (r .at ≡ 0) × (r .end ≤ length (now (window .exit))) × ((r .ended ≡ true) ⊎ (end - at < r .end)) ⌝ }
+    ensures { λ _. ⌜ take (end - at) (now (window .exit)) ≡ slice at end (now (window .entry)) ⌝ }
+{
+    move_front(window, at, end);
+    let kept = end - at;
+    let part = &mut window[kept..];
+    let got = libc::read(STDIN_FILENO, part);
+    let more = io::count(got, part);
+    Unused {
+        at: 0,
+        end: kept + more,
+        ended: more == 0,
+    }
+}
+
+// A buffer that has no room for another step is written. Answers how much of it is filled then.
+fn make_room(out: &[u8], filled: usize) -> usize
+    requires { ⌜ (filled ≤ length (now out)) × (room ≤ length (now out)) ⌝ }
+    ensures { λ r. ⌜ r + room ≤ length (now (out .entry)) ⌝ }
+{
+    if out.len() - filled < ROOM {
+        io::write_all(STDOUT_FILENO, &out[..filled]);
+        return 0;
+    }
+    filled
+}
+
+// One step on the bytes of the window that are not used yet, putting behind what is filled of the buffer.
+fn step_on(
+    join: Join,
+    a: &mut area::Places,
+    b: &mut area::Places,
+    rows: &mut queue::Places,
+    counts: Counts,
+    left: usize,
+    window: &[u8],
+    unused: Unused,
+    out: &mut [u8],
+    filled: usize,
+) -> Stepped
+    requires { ⌜ (Kept (progressWith join (now a) (now b) (now rows) counts) left) × (unused .at ≤ unused .end) × (unused .end ≤ length (now window)) × (filled + room ≤ length (now out)) ⌝ }
+    ensures { λ r. ⌜ Kept (progressWith (r .join) (now (a .exit)) (now (b .exit)) (now (rows .exit)) (r .counts)) (left - r .used) ⌝ }
+    ensures { λ r. ⌜ (r .used ≤ left) × (unused .at + r .used ≤ unused .end) × (filled + r .filled ≤ length (now (out .entry))) × (r .went ≡ Went.On → 4 ≤ r .used) × (r .went ≡ Went.More → (unused .ended ≡ false) × (unused .end - unused .at < 68) × (r .used ≡ 0)) ⌝ }
+    ensures { λ r. ⌜ effectWith r (now (a .exit)) (now (b .exit)) (now (rows .exit)) (drop filled (now (out .exit))) ≡ stepped (progressWith join (now (a .entry)) (now (b .entry)) (now (rows .entry)) counts) left (slice (unused .at) (unused .end) (now (window .entry))) (unused .ended) (drop filled (now (out .entry))) ⌝ }
+    ensures { λ _. ⌜ take filled (now (out .exit)) ≡ take filled (now (out .entry)) ⌝ }
+{
+    let at = unused.at;
+    let end = unused.end;
+    let shown = &window[at..end];
+    let free = &mut out[filled..];
+    step(join, a, b, rows, counts, left, shown, unused.ended, free)
+}
+
+// Joins the feed that standard input is, as far as its first bytes, up to the limit.
+pub fn join_input(limit: u32) {
+    let mut a = area::no_places();
+    let mut b = area::no_places();
+    let mut rows = queue::no_places();
+    let mut join = Join::fresh(Rule::Equal);
+    let mut counts = Counts {
+        records: 0,
+        pairs: 0,
+    };
+    let mut left = limit as usize;
+    let mut window = io::large_buffer();
+    let mut unused = Unused {
+        at: 0,
+        end: 0,
+        ended: false,
+    };
+    let mut out = io::large_buffer();
+    let mut filled = 0;
+    loop {
+        filled = make_room(&out, filled);
+        let stepped = step_on(
+            join,
+            &mut a,
+            &mut b,
+            &mut rows,
+            counts,
+            left,
+            &window,
+            unused,
+            &mut out,
+            filled,
+        );
+        join = stepped.join;
+        counts = stepped.counts;
+        left -= stepped.used;
+        filled += stepped.filled;
+        unused.at += stepped.used;
+        let went = stepped.went;
+        match went {
+            Went::More => {
+                unused = refill(&mut window, unused.at, unused.end);
+            }
+            Went::On => {}
+            Went::Ended => {
+                io::write_all(STDOUT_FILENO, &out[..filled]);
+                return;
+            }
+        }
+    }
+}
