@@ -20,9 +20,12 @@ use std::process::ExitCode;
 
 const USAGE: &str = "\
 second join              a feed -> what joinfeed must print of it
+second join LIMIT        the same, reading no more than LIMIT bytes
 second feed              text lines -> a feed
 second text              a feed -> text lines
 second make SEED COUNT   a bundle of COUNT feeds made from SEED
+second long SEED COUNT   one feed of COUNT records and both closes made from SEED
+second example           the feed that document 01 gives
 second joinall           a bundle -> what joinfeed must print of each of its feeds
 second count SEED COUNT  the feeds of `make SEED COUNT` by kind and by last line
 
@@ -62,6 +65,12 @@ fn main() -> ExitCode {
 fn answer(words: &[&str]) -> Result<Vec<u8>, Fault> {
     match words {
         ["join"] => Ok(joinfeed::joinfeed(&input(joinfeed::READ_LIMIT)?).into_bytes()),
+        ["join", limit] => {
+            let feed = input(joinfeed::READ_LIMIT)?;
+            Ok(joinfeed::joinfeed_watched(&feed, number(limit)?, |_| ()).into_bytes())
+        }
+        ["example"] => Ok(make::example_of_the_document()),
+        ["long", seed, count] => Ok(make::long_feed(number(seed)?, number(count)?)),
         ["feed"] => text::feed_of_text(&all_input()?).map_err(Fault::Input),
         ["text"] => Ok(text::text_of_feed(&all_input()?).into_bytes()),
         ["make", seed, count] => {
@@ -79,11 +88,14 @@ fn answer(words: &[&str]) -> Result<Vec<u8>, Fault> {
         ["count", seed, count] => Ok(count::table(number(seed)?, number(count)?).into_bytes()),
         ["help" | "--help" | "-h"] => Ok(USAGE.as_bytes().to_vec()),
         [] => Err(usage("no command is given; give one of these")),
-        [command @ ("join" | "feed" | "text" | "joinall"), ..] => Err(usage(&format!(
+        ["join", ..] => Err(usage(
+            "`join` takes a limit or nothing; give it a feed with <",
+        )),
+        [command @ ("feed" | "text" | "joinall" | "example"), ..] => Err(usage(&format!(
             "`{command}` takes no arguments; give it its input with <"
         ))),
-        [command @ ("make" | "count"), ..] => Err(usage(&format!(
-            "`{command}` takes a seed and a count of feeds; write {command} 1 3000"
+        [command @ ("make" | "count" | "long"), ..] => Err(usage(&format!(
+            "`{command}` takes a seed and a count; write {command} 1 3000"
         ))),
         [command, ..] => Err(usage(&format!(
             "`{command}` is no command; give one of these"

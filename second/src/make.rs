@@ -69,6 +69,11 @@ pub fn feeds(seed: u64, count: u64) -> impl Iterator<Item = (&'static str, Vec<u
     })
 }
 
+/// One feed of a seed, with so many records and both closes.
+pub fn long_feed(seed: u64, count: u64) -> Vec<u8> {
+    ordinary::of_records(&mut Chance::new(seed), count.min(1_000_000) as u32)
+}
+
 /// The input that document 01 gives for joinfeed.
 pub fn example_of_the_document() -> Vec<u8> {
     ordinary::example(&mut Chance::new(0), 0)

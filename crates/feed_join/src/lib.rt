@@ -22,9 +22,6 @@ ghost use Rattle.lines.specs.Line.{line};
 ghost use Rattle.feed_join.specs.Printed.{refusedWord, pairLines, endLine, refusedLine, heard, onward, answered};
 ghost use Rattle.feed_join.specs.Step.{effectWith, done, tells, stepped, progressWith, Kept, room};
 
-// How many bytes of the feed joinfeed reads.
-pub const READ_LIMIT: usize = 4294967295;
-
 // How many bytes a step may put out: the lines of 256 pairs.
 pub const ROOM: usize = 22528;
 

@@ -17,6 +17,9 @@ ghost use lib.ListN.{length, take, drop};
 ghost use lib.Seq.{slice};
 ghost use Rattle.feed_join.specs.Step.{effectWith, stepped, progressWith, Kept, room};
 
+// How many bytes of the feed joinfeed reads.
+pub const READ_LIMIT: u32 = 4294967295;
+
 // Which bytes of the window are not used yet, and whether the input is known to end behind them.
 struct Unused {
     at: usize,
@@ -142,5 +145,59 @@ pub fn join_input(limit: u32) {
                 return;
             }
         }
+    }
+}
+
+// The place behind a window of so many bytes, or behind all of them.
+fn window_end(at: usize, size: usize, all: usize) -> usize
+    requires { ⌜ at ≤ all ⌝ }
+    ensures { λ r. ⌜ (at ≤ r) × (r ≤ all) ⌝ }
+{
+    if all - at < size { all } else { at + size }
+}
+
+// Joins a feed that is at hand, through windows of so many bytes. No window shows that it ends before the limit does, which is the feed's length.
+pub fn join_bytes(feed: &[u8], size: usize)
+    requires { ⌜ length (now feed) ≤ 4294967295 ⌝ }
+{
+    let mut a = area::no_places();
+    let mut b = area::no_places();
+    let mut rows = queue::no_places();
+    let mut join = Join::fresh(Rule::Equal);
+    let mut counts = Counts {
+        records: 0,
+        pairs: 0,
+    };
+    let mut at = 0;
+    let mut out = io::large_buffer();
+    let mut filled = 0;
+    loop {
+        filled = make_room(&out, filled);
+        let end = window_end(at, size, feed.len());
+        let stepped = step_on(
+            join,
+            &mut a,
+            &mut b,
+            &mut rows,
+            counts,
+            feed.len() - at,
+            feed,
+            Unused {
+                at,
+                end,
+                ended: false,
+            },
+            &mut out,
+            filled,
+        );
+        join = stepped.join;
+        counts = stepped.counts;
+        at += stepped.used;
+        filled += stepped.filled;
+        let went = stepped.went;
+        let Went::On = went else {
+            io::write_all(STDOUT_FILENO, &out[..filled]);
+            return;
+        };
     }
 }

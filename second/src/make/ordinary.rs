@@ -150,6 +150,13 @@ pub fn long(chance: &mut Chance, round: u32) -> Vec<u8> {
     some_records(chance, &habits, records)
 }
 
+/// So many records of a middling evening, then both closes.
+pub fn of_records(chance: &mut Chance, count: u32) -> Vec<u8> {
+    let mut draft = Draft::new();
+    draft.records(chance, &middling(), count);
+    draft.closing(chance)
+}
+
 fn some_records(chance: &mut Chance, habits: &Habits, (least, most): (u32, u32)) -> Vec<u8> {
     let mut draft = Draft::new();
     let records = chance.between(least, most);
