@@ -25,7 +25,8 @@ use Rattle.demands.proofs.Takes.{takes-drop}
 use Rattle.feed.specs.declared.Record.{Record}
 use Rattle.feed.specs.declared.Record.the-variants as record-of
 use Rattle.feed_join.specs.Printed.{heard}
-use Rattle.feed_demands.specs.Course.{callOf, callsOf, entryOf}
+use Rattle.feed_demands.specs.Records.{entryIn}
+use Rattle.feed_demands.specs.Course.{callOf, callsOf}
 use Rattle.feed_demands.specs.Prints.{TakesAll}
 
 module _ (w : World) where
@@ -61,27 +62,23 @@ none-ready (p ∷ ps) s h e =
     ∙ none-ready ps (without 1 s) (without-kept s h 1) (take-ready s h p ps e .1)
 
 module _ (w : World) (h : Sound (w .state)) (found : Record) where
-  own : World
+  abbrev own : World
   own = run w (callOf found)
 
-  both : (run w (callsOf w found) .state ≡ without (length (readyNow own)) (own .state)) × (run w (callsOf w found) .out ≡ own .out ++ take (length (readyNow own)) (readyNow own))
-  unfolding callsOf own
-  both = rw (run-append w (callOf found) (replicate (length (readyNow own)) Take)) (takes-drop (length (readyNow own)) own (sound-run w h (callOf found)) (omega arith))
+  taken : (run w (callsOf w found) .state ≡ without (length (readyNow own)) (own .state)) × (run w (callsOf w found) .out ≡ own .out ++ take (length (readyNow own)) (readyNow own))
+  unfolding callsOf
+  taken = rw (run-append w (callOf found) (replicate (length (readyNow own)) Take)) (takes-drop (length (readyNow own)) own (sound-run w h (callOf found)) (omega arith))
 
   pub calls-state : run w (callsOf w found) .state ≡ without (length (readyOf (heard (w .state) found .state))) (heard (w .state) found .state)
-  unfolding own
-  calls-state = both .0 ∙ ap (λ (s : State). without (length (readyOf s)) s) (call-state w found)
+  calls-state = taken .0 ∙ ap (λ (s : State). without (length (readyOf s)) s) (call-state w found)
 
   pub calls-out : run w (callsOf w found) .out ≡ w .out ++ readyOf (heard (w .state) found .state)
-  unfolding own
-  calls-out = both .1 ∙ ap₂ (λ (out ps : List Pair). out ++ ps) (call-out w found) (take-length (readyNow own) ∙ ap readyOf (call-state w found))
-
-  pub calls-ready : readyNow (run w (callsOf w found)) ≡ []
-  unfolding own
-  calls-ready = ap readyOf (both .0) ∙ none-ready (readyNow own) (own .state) (sound-run w h (callOf found)) refl
+  calls-out = taken .1 ∙ ap₂ (λ (out ps : List Pair). out ++ ps) (call-out w found) (take-length (readyNow own) ∙ ap readyOf (call-state w found))
 
 pub takes-all : TakesAll
-takes-all = calls-ready
+takes-all w h found =
+    let own = run w (callOf found) in
+    ap readyOf (taken w h found .0) ∙ none-ready (readyNow own) (own .state) (sound-run w h (callOf found)) refl
 
 -- ---- the entries that it brings
 
@@ -102,13 +99,13 @@ module _ (side : Side) where
   takes-entries zero w = refl
   takes-entries (suc k) w = takes-entries k (step w Take) ∙ step-entries w Take ∙ append-nil (ofJournal side w)
 
-  call-entries : (w : World) (found : Record) → heard (w .state) found .answer ≡ Accepted → ofJournal side (run w (callOf found)) ≡ ofJournal side w ++ entryOf side found
+  call-entries : (w : World) (found : Record) → heard (w .state) found .answer ≡ Accepted → ofJournal side (run w (callOf found)) ≡ ofJournal side w ++ entryIn side found
   call-entries w (record-of.Entry stream e) a = step-entries w (Enter stream e) ∙ ap (λ (x : Answer). ofJournal side w ++ unlessRefused x (ofSide side (sideOf stream) e) []) a
   call-entries w (record-of.Mark stream time) a = step-entries w (Mark stream time)
   call-entries w (record-of.Close stream) a = step-entries w (Close stream)
   call-entries w (record-of.Note size) a = sym (append-nil (ofJournal side w))
 
-  pub calls-entries : (w : World) (found : Record) → heard (w .state) found .answer ≡ Accepted → ofJournal side (run w (callsOf w found)) ≡ ofJournal side w ++ entryOf side found
+  pub calls-entries : (w : World) (found : Record) → heard (w .state) found .answer ≡ Accepted → ofJournal side (run w (callsOf w found)) ≡ ofJournal side w ++ entryIn side found
   unfolding callsOf
   calls-entries w found a =
       let own = run w (callOf found) in
