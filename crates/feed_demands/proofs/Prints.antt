@@ -37,12 +37,12 @@ use Rattle.lines.specs.Line.{line}
 use Rattle.feed_join.specs.Printed.{Progress, pairLine, pairLines, doneWord, openWord, endLine, refusedLine, heard, onward, answered, deed, continued, printedFrom, printed}
 use Rattle.feed_demands.specs.Records.{recordsAt, recordsFrom, recordsOf, entryIn, entriesIn, plainIn}
 use Rattle.feed_demands.specs.Course.{callOf, callsOf, Stop, FeedEnds, Refusal, Course, stops, goesOn, answeredBy, courseAt, courseFrom, courseOf}
-use Rattle.feed_demands.specs.Prints.{worldOf, counted, lastLine, Prints}
+use Rattle.feed_demands.specs.Prints.{worldOf, standing, lastLine, Prints}
 use Rattle.feed_demands.proofs.Record.{call-refused, calls-state, calls-out, takes-all, ofJournal, calls-entries}
 
 -- behind k records that came to w, a text is what a course prints of some records
 record Tells (k : ℕ) (w : World) (text : List ℕ) (records : List Record) (c : Course) : Type 0 where
-  lines : pairLines (w .out) ++ text ≡ pairLines (run w (c .calls) .out) ++ lastLine (c .stop) (counted (k + length (c .accepted)) (run w (c .calls)))
+  lines : pairLines (w .out) ++ text ≡ pairLines (run w (c .calls) .out) ++ lastLine (c .stop) (standing (k + length (c .accepted)) (run w (c .calls)))
   first : IsPrefix (c .accepted) records
   all : c .stop ≡ FeedEnds → c .accepted ≡ records
   entries : (side : Side) → ofJournal side (run w (c .calls)) ≡ ofJournal side w ++ entriesIn side (c .accepted)
@@ -51,11 +51,11 @@ record Tells (k : ℕ) (w : World) (text : List ℕ) (records : List Record) (c 
 module _ (k : ℕ) (w : World) where
   -- it stops there, by calls that change nothing
   stopped : readyNow w ≡ [] → (calls : List Call) (stop : Stop) → run w calls ≡ w → (records : List Record) → (stop ≡ FeedEnds → [] ≡ records)
-      → Tells k w (lastLine stop (counted k w)) records (stops calls stop)
+      → Tells k w (lastLine stop (standing k w)) records (stops calls stop)
   stopped none calls stop same records all =
       let no-more : k ≡ k + 0 = omega arith in
       record {
-        lines = ap₂ (λ (v : World) (n : ℕ). pairLines (v .out) ++ lastLine stop (counted n v)) (sym same) no-more;
+        lines = ap₂ (λ (v : World) (n : ℕ). pairLines (v .out) ++ lastLine stop (standing n v)) (sym same) no-more;
         first = (records, refl);
         all = all;
         entries = λ side. ap (ofJournal side) same ∙ sym (append-nil (ofJournal side w));
@@ -63,8 +63,8 @@ module _ (k : ℕ) (w : World) where
       }
 
   module _ (h : Sound (w .state)) (found : Record) where
-    onward-counted : onward (counted k w) (heard (w .state) found .state) ≡ counted (suc k) (run w (callsOf w found))
-    onward-counted =
+    onward-standing : onward (standing k w) (heard (w .state) found .state) ≡ standing (suc k) (run w (callsOf w found))
+    onward-standing =
         let pairs = ap length (calls-out w h found) ∙ length-append (w .out) (readyOf (heard (w .state) found .state)) in
         λ i. record { state = sym (calls-state w h found) i; records = suc k; pairs = sym pairs i }
 
@@ -81,7 +81,7 @@ module _ (k : ℕ) (w : World) where
               ∙ ap (λ (l : List ℕ). l ++ text) (sym (flatMap-append pairLine (w .out) new))
               ∙ ap (λ (ps : List Pair). pairLines ps ++ text) (sym (calls-out w h found))
               ∙ t .lines
-              ∙ ap₂ (λ (v : World) (n : ℕ). pairLines (v .out) ++ lastLine (c .stop) (counted n v)) (sym joined) up;
+              ∙ ap₂ (λ (v : World) (n : ℕ). pairLines (v .out) ++ lastLine (c .stop) (standing n v)) (sym joined) up;
           first = (t .first .0, ap {B = List Record} (λ l. found ∷ l) (t .first .1));
           all = λ e. ap {B = List Record} (λ l. found ∷ l) (t .all e);
           entries = λ side.
@@ -95,22 +95,22 @@ module _ (k : ℕ) (w : World) where
 abbrev TellsFrom : ℕ → Type 0
 TellsFrom n =
     (k : ℕ) (w : World) → Sound (w .state) → readyNow w ≡ [] → (rest : List ℕ) → length rest < n
-    → Tells k w (printedFrom n (counted k w) rest) (recordsFrom n rest) (courseFrom n w rest)
+    → Tells k w (printedFrom n (standing k w) rest) (recordsFrom n rest) (courseFrom n w rest)
 
 -- at a place of the feed, if it is so at all later ones
 module _ (n : ℕ) (again : TellsFrom n) (k : ℕ) (w : World) (h : Sound (w .state)) (none : readyNow w ≡ []) (rest : List ℕ) (few : length rest < suc n) where
   with-answer : (found : Record) (next : ℕ) → (4 ≤ next) × (next ≤ length rest) → (x : Answer) → heard (w .state) found .answer ≡ x
-      → Tells k w (continued (printedFrom n) rest (answered (counted k w) next x (heard (w .state) found .state))) (found ∷ recordsFrom n (drop next rest))
+      → Tells k w (continued (printedFrom n) rest (answered (standing k w) next x (heard (w .state) found .state))) (found ∷ recordsFrom n (drop next rest))
       (answeredBy x found (goesOn found (callsOf w found) (courseFrom n (run w (callsOf w found)) (drop next rest))))
   with-answer found next within Accepted a =
       let v = run w (callsOf w found) in
       let fewer : length (drop next rest) < n = simp length-drop (omega arith) in
       let behind = again (suc k) v (sound-run w h (callsOf w found)) (takes-all w h found) (drop next rest) fewer in
-      rw (onward-counted k w h found) (accepted k w h found a _ (recordsFrom n (drop next rest)) _ behind)
+      rw (onward-standing k w h found) (accepted k w h found a _ (recordsFrom n (drop next rest)) _ behind)
   with-answer found next within (Refused number) a =
       stopped k w none (callOf found) (Refusal number) (call-refused w found number a) (found ∷ recordsFrom n (drop next rest)) (λ e. absurd (let z : _≡_ {A = ℕ} 0 1 = cc in omega arith))
 
-  with-reading : (r : Reading) → reading rest 0 ≡ r → Tells k w (continued (printedFrom n) rest (deed (counted k w) r)) (recordsAt (recordsFrom n) rest r) (courseAt (courseFrom n) w rest r)
+  with-reading : (r : Reading) → reading rest 0 ≡ r → Tells k w (continued (printedFrom n) rest (deed (standing k w) r)) (recordsAt (recordsFrom n) rest r) (courseAt (courseFrom n) w rest r)
   unfolding deed
   with-reading (Found found next) e = with-answer found next (found-ends rest 0 e) (heard (w .state) found .answer) refl
   with-reading (refusedReading number place) e = stopped k w none [] (Refusal number) refl [] (λ s. refl)
@@ -145,7 +145,7 @@ says-done FeedEnds p h = (refl, go (bothClosed (p .state)) h)
     go false k = absurd (let z : _≡_ {A = ℕ} 100 111 = cc (k .1) in omega arith)
 says-done (Refusal number) p h = absurd (let z : _≡_ {A = ℕ} 100 114 = cc (h .1) in omega arith)
 
-done-line : (w : World) (n : ℕ) → bothClosed (w .state) ≡ true → endLine (counted n w) ≡ doneWord ++ line (n ∷ length (w .out) ∷ [])
+done-line : (w : World) (n : ℕ) → bothClosed (w .state) ≡ true → endLine (standing n w) ≡ doneWord ++ line (n ∷ length (w .out) ∷ [])
 unfolding endLine
 done-line w n closed = rw closed
 
@@ -157,7 +157,7 @@ prints limit feed =
     let w = worldOf c in
     let t : Tells 0 (begin Equal) (printed limit feed) (recordsOf limit feed) c = tells (suc (length (take limit feed))) 0 (begin Equal) (sound-fresh Equal) fresh-none (take limit feed) (omega arith) in
     let none : 0 + length (c .accepted) ≡ length (c .accepted) = omega arith in
-    let handed = t .lines ∙ ap (λ (n : ℕ). pairLines (w .out) ++ lastLine (c .stop) (counted n w)) none in
+    let handed = t .lines ∙ ap (λ (n : ℕ). pairLines (w .out) ++ lastLine (c .stop) (standing n w)) none in
     record {
       handed = handed;
       accepted = (t .first, t .all);
@@ -165,13 +165,13 @@ prints limit feed =
       stretch = λ more. demands Equal (c .calls) more .firstStretch;
       noneKeptBack = λ more. sym (append-nil (w .out)) ∙ ap (λ (ps : List Pair). w .out ++ ps) (sym (t .none)) ∙ demands Equal (c .calls) more .belowClocks;
       doneWhole = λ said.
-          let s = says-done (c .stop) (counted (length (c .accepted)) w) said in
+          let s = says-done (c .stop) (standing (length (c .accepted)) w) said in
           let whole : w .out ≡ plainIn (c .accepted) =
           demands Equal (c .calls) [] .whole (s .1) (none-waits (w .state) (s .1) (t .none))
           ∙ ap (λ (calls : List Call). plainOf Equal (ran Equal calls)) (append-nil (c .calls))
           ∙ ap₂ (λ (a b : List Entry). plain Equal a b) (t .entries A) (t .entries B) in
           handed
-          ∙ ap (λ (stop : Stop). pairLines (w .out) ++ lastLine stop (counted (length (c .accepted)) w)) (s .0)
+          ∙ ap (λ (stop : Stop). pairLines (w .out) ++ lastLine stop (standing (length (c .accepted)) w)) (s .0)
           ∙ ap (λ (l : List ℕ). pairLines (w .out) ++ l) (done-line w (length (c .accepted)) (s .1))
           ∙ ap₂ (λ (ps : List Pair) (n : ℕ). pairLines ps ++ (doneWord ++ line (n ∷ length ps ∷ []))) (whole ∙ ap plainIn (t .all (s .0))) (ap length (t .all (s .0)));
     }

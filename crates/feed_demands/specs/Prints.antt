@@ -28,8 +28,8 @@ abbrev pub worldOf : Course → World
 worldOf c = ran Equal (c .calls)
 
 -- Records counts every record accepted so far, notes included; pairs counts the pair lines printed.
-abbrev pub counted : ℕ → World → Progress
-counted records w = record { state = w .state; records = records; pairs = length (w .out) }
+abbrev pub standing : ℕ → World → Progress
+standing records w = record { state = w .state; records = records; pairs = length (w .out) }
 
 -- Its last line is `done` or `open`, records, pairs; or `refused`, the number, records accepted before.
 abbrev pub lastLine : Stop → Progress → List ℕ
@@ -37,7 +37,7 @@ lastLine FeedEnds p = endLine p
 lastLine (Refusal number) p = refusedLine number p
 
 abbrev pub lastOf : Course → List ℕ
-lastOf c = lastLine (c .stop) (counted (length (c .accepted)) (worldOf c))
+lastOf c = lastLine (c .stop) (standing (length (c .accepted)) (worldOf c))
 
 -- a line for each pair that the join hands out, in their order, and the last line
 abbrev pub linesOf : Course → List ℕ
