@@ -1,0 +1,1 @@
+// What joinfeed prints, in the words of the demands. No code.
