@@ -13,7 +13,7 @@ use Rattle.feed_join.specs.declared.Counts.{Counts}
 use Rattle.feed_join.specs.declared.Stepped.{Stepped}
 use Rattle.feed_join.specs.declared.Went.{Went}
 use Rattle.feed_join.specs.declared.Went.the-variants.{More, On, Ended}
-use Rattle.feed_join.specs.Printed.{Progress, Deed, Ends, Goes, deed}
+use Rattle.feed_join.specs.Printed.{Progress, Deed, Ends, Goes, deed, readLimit}
 
 -- what a window shows of a feed of which so many bytes may still be read
 abbrev pub shown : ℕ → List ℕ → List ℕ
@@ -55,7 +55,7 @@ effectWith step inA inB rows out =
 -- what a run keeps: a sound join, and counts that fit, as a record has 4 bytes at least and 256 pairs at most are ready
 pub record Kept (p : Progress) (left : ℕ) : Type 0 where
   pub sound : Sound (p .state)
-  pub few-records : 4 * p .records + left ≤ 4294967295
+  pub few-records : 4 * p .records + left ≤ readLimit
   pub few-pairs : p .pairs ≤ 256 * p .records
 
 -- as many bytes as the lines of 256 pairs may have
