@@ -31,7 +31,7 @@ use feeds::KINDS;
 use folder::Folder;
 use kit::{Kit, Program};
 use std::path::{Path, PathBuf};
-use std::process::ExitCode;
+use std::process::{Command, ExitCode, Stdio};
 use time::Times;
 
 /// How many records the feeds of a kind have, and how often each is timed.
@@ -108,16 +108,30 @@ fn root() -> PathBuf {
 fn measured(root: &Path) -> Result<PathBuf, String> {
     let mut arguments = std::env::args_os().skip(1);
     let program = match (arguments.next(), arguments.next()) {
-        (None, _) => root.join("target/bin/joinfeed"),
+        (None, _) => joinfeed(root)?,
         (Some(path), None) => PathBuf::from(path),
         (Some(_), Some(_)) => return Err(USAGE.to_string()),
     };
-    program.canonicalize().map_err(|error| {
-        format!(
-            "there is no program {} ({error}); run `rt check joinfeed` first",
-            program.display()
-        )
-    })
+    program
+        .canonicalize()
+        .map_err(|error| format!("there is no program {} ({error})", program.display()))
+}
+
+/// joinfeed, proved and built first where that was not done.
+fn joinfeed(root: &Path) -> Result<PathBuf, String> {
+    let program = root.join("target/bin/joinfeed");
+    if !program.exists() {
+        eprintln!("joinfeed is proved and built first, which takes some minutes");
+        let built = Command::new("rt")
+            .args(["check", "joinfeed"])
+            .current_dir(root)
+            .stdout(Stdio::null())
+            .status();
+        if !built.is_ok_and(|status| status.success()) {
+            return Err("joinfeed cannot be built; run `rt check joinfeed` to see why".to_string());
+        }
+    }
+    Ok(program)
 }
 
 impl Bench {
