@@ -2,3 +2,4 @@ pub mod Heard
 pub mod Lines
 pub mod Steps
 pub mod Windows
+pub mod Unique
