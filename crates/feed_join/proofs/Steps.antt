@@ -12,12 +12,13 @@ use borrow.Author.Tests.{leb-true, leb-false}
 use Rattle.lists.specs.Put.{put}
 use Rattle.lists.proofs.Keep.{keep-length}
 use Rattle.lists.proofs.Store.{content-length}
+use Rattle.pairing.specs.declared.Rule.the-variants.{Equal}
 use Rattle.journal.specs.declared.Answer.{Answer}
 use Rattle.journal.specs.declared.Answer.the-variants.{Accepted, Refused}
 use Rattle.queue.specs.Queue as queue
 use Rattle.join.specs.State.{State, Sound}
 use Rattle.join.specs.Calls.{Outcome, outcome, waitingIn, readyIn, readyOf, without}
-use Rattle.join.proofs.Kept.{without-kept}
+use Rattle.join.proofs.Kept.{sound-fresh, without-kept}
 use Rattle.join.proofs.Ready.{ready-few}
 use Rattle.feed.specs.declared.Reading.{Reading}
 use Rattle.feed.specs.declared.Reading.the-variants.{Found, Refused as refusedReading, End}
@@ -26,9 +27,13 @@ use Rattle.feed.specs.Reading.{reading}
 use Rattle.feed.proofs.Readings.{found-ends}
 use Rattle.lines.specs.Line.{line}
 use Rattle.feed_join.specs.declared.Went.the-variants.{On, Ended}
-use Rattle.feed_join.specs.Printed.{Progress, pairLines, refusedWord, endLine, refusedLine, heard, Ends, onward, taken, answered, deed}
+use Rattle.feed_join.specs.Printed.{Progress, begun, readLimit, pairLines, refusedWord, endLine, refusedLine, heard, Ends, onward, taken, answered, deed}
 use Rattle.feed_join.specs.Step.{Effect, shown, tells, done, waits, stepped, Kept}
 use Rattle.feed_join.proofs.Heard.{heard-kept}
+
+-- a run that has begun, with all of the limit left
+pub kept-begun : Kept begun readLimit
+kept-begun = record { sound = sound-fresh Equal; few-records = omega arith; few-pairs = omega arith }
 
 -- no more are ready than wait
 pub ready-count : (s : State) → queue.Holds (s .join .queue) (s .rows) → (length (readyOf s) ≤ s .join .queue .count) × (s .join .queue .count ≤ queue.places)
