@@ -3,3 +3,4 @@ pub mod Lines
 pub mod Moves
 pub mod Steps
 pub mod Windows
+pub mod Unique

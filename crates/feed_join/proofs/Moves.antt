@@ -18,7 +18,7 @@ use Rattle.feed.specs.Reading.{reading}
 use Rattle.feed.proofs.Readings.{found-ends}
 use Rattle.feed_join.specs.declared.Went.the-variants.{More, On, Ended}
 use Rattle.feed_join.specs.Printed.{Progress, pairLines, endLine, refusedLine, heard, Ends, Goes, onward, answered, deed}
-use Rattle.feed_join.specs.Step.{Effect, shown, tells, done, waits, stepped}
+use Rattle.feed_join.specs.Step.{Effect, shown, tells, effectOf, waits, stepped}
 
 pub record Moves (left : ℕ) (window : List ℕ) (ended : Bool) (out : List ℕ) (e : Effect) : Type 0 where
   -- it uses no more than the window has, and than is left
@@ -49,10 +49,10 @@ more-is-not-on : {P : Type 0} → More ≡ On → P
 more-is-not-on e = absurd (let z : _≡_ {A = ℕ} 0 1 = cc in omega arith)
 
 module _ (p : Progress) (left : ℕ) (window : List ℕ) (ended : Bool) (out : List ℕ) where
-  moves-ends : (lines : List ℕ) → Moves left window ended out (done p out (Ends lines))
+  moves-ends : (lines : List ℕ) → Moves left window ended out (effectOf p out (Ends lines))
   moves-ends lines = record { in-window = omega arith; in-left = omega arith; on = λ e. ended-is-not-on e; more = λ e. ended-is-not-more e; fits = put-fits lines out }
 
-  moves-on : (lines : List ℕ) (next : ℕ) (q : Progress) → (4 ≤ next) × (next ≤ length (shown left window)) → Moves left window ended out (done p out (Goes lines next q))
+  moves-on : (lines : List ℕ) (next : ℕ) (q : Progress) → (4 ≤ next) × (next ≤ length (shown left window)) → Moves left window ended out (effectOf p out (Goes lines next q))
   moves-on lines next q h = record {
     in-window = omega (arith, length-take left window);
     in-left = omega (arith, length-take left window);
@@ -61,11 +61,11 @@ module _ (p : Progress) (left : ℕ) (window : List ℕ) (ended : Bool) (out : L
     fits = put-fits lines out;
   }
 
-  moves-answer : (next : ℕ) → (4 ≤ next) × (next ≤ length (shown left window)) → (x : Answer) (s : State) → Moves left window ended out (done p out (answered p next x s))
+  moves-answer : (next : ℕ) → (4 ≤ next) × (next ≤ length (shown left window)) → (x : Answer) (s : State) → Moves left window ended out (effectOf p out (answered p next x s))
   moves-answer next h Accepted s = moves-on (pairLines (readyOf s)) next (onward p s) h
   moves-answer next h (Refused number) s = moves-ends (refusedLine number p)
 
-  moves-deed : (r : Reading) → reading (shown left window) 0 ≡ r → Moves left window ended out (done p out (deed p r))
+  moves-deed : (r : Reading) → reading (shown left window) 0 ≡ r → Moves left window ended out (effectOf p out (deed p r))
   unfolding deed
   moves-deed (Found found next) e = moves-answer next (found-ends (shown left window) 0 e) (heard (p .state) found .answer) (heard (p .state) found .state)
   moves-deed (refusedReading number place) e = moves-ends (refusedLine number p)
@@ -85,7 +85,7 @@ module _ (p : Progress) (left : ℕ) (window : List ℕ) (ended : Bool) (out : L
   unfolding stepped
   moves-stepped = go (tells left window ended) refl
     where
-      go : (b : Bool) → tells left window ended ≡ b → Moves left window ended out (cond b (done p out (deed p (reading (shown left window) 0))) (waits p out))
+      go : (b : Bool) → tells left window ended ≡ b → Moves left window ended out (cond b (effectOf p out (deed p (reading (shown left window) 0))) (waits p out))
       go true e = moves-deed (reading (shown left window) 0) refl
       go false e =
           let h = short e in

@@ -12,12 +12,13 @@ use borrow.Author.Tests.{leb-true, leb-false}
 use Rattle.lists.specs.Put.{put}
 use Rattle.lists.proofs.Keep.{keep-length}
 use Rattle.lists.proofs.Store.{content-length}
+use Rattle.pairing.specs.declared.Rule.the-variants.{Equal}
 use Rattle.journal.specs.declared.Answer.{Answer}
 use Rattle.journal.specs.declared.Answer.the-variants.{Accepted, Refused}
 use Rattle.queue.specs.Queue as queue
 use Rattle.join.specs.State.{State, Sound}
 use Rattle.join.specs.Calls.{Outcome, outcome, waitingIn, readyIn, readyOf, without}
-use Rattle.join.proofs.Kept.{without-kept}
+use Rattle.join.proofs.Kept.{sound-fresh, without-kept}
 use Rattle.join.proofs.Ready.{ready-few}
 use Rattle.feed.specs.declared.Reading.{Reading}
 use Rattle.feed.specs.declared.Reading.the-variants.{Found, Refused as refusedReading, End}
@@ -26,9 +27,13 @@ use Rattle.feed.specs.Reading.{reading}
 use Rattle.feed.proofs.Readings.{found-ends}
 use Rattle.lines.specs.Line.{line}
 use Rattle.feed_join.specs.declared.Went.the-variants.{On, Ended}
-use Rattle.feed_join.specs.Printed.{Progress, pairLines, refusedWord, endLine, refusedLine, heard, Ends, onward, taken, answered, deed}
-use Rattle.feed_join.specs.Step.{Effect, shown, tells, done, waits, stepped, Kept}
+use Rattle.feed_join.specs.Printed.{Progress, begun, readLimit, pairLines, refusedWord, endLine, refusedLine, heard, Ends, onward, taken, answered, deed}
+use Rattle.feed_join.specs.Step.{Effect, shown, tells, effectOf, waits, stepped, Kept}
 use Rattle.feed_join.proofs.Heard.{heard-kept}
+
+-- a run that has begun, with all of a limit left
+pub kept-begun : (limit : ℕ) → limit ≤ readLimit → Kept begun limit
+kept-begun limit few = record { sound = sound-fresh Equal; few-records = omega arith; few-pairs = omega arith }
 
 -- no more are ready than wait
 pub ready-count : (s : State) → queue.Holds (s .join .queue) (s .rows) → (length (readyOf s) ≤ s .join .queue .count) × (s .join .queue .count ≤ queue.places)
@@ -49,20 +54,20 @@ onward-with p k e s records pairs f g h =
 
 module _ (p : Progress) (out : List ℕ) (next : ℕ) (o : Outcome Answer) (s : State) where
   pub accepted-effect : outcome Accepted s ≡ o → (q : Progress) (filled : ℕ) (buffer : List ℕ) → q ≡ onward p s → filled ≡ length (pairLines (readyOf s)) → buffer ≡ put 0 (pairLines (readyOf s)) out
-      → record { went = On; progress = q; used = next; filled = filled; buffer = buffer } ≡ done p out (answered p next (o .answer) (o .state))
+      → record { went = On; progress = q; used = next; filled = filled; buffer = buffer } ≡ effectOf p out (answered p next (o .answer) (o .state))
   accepted-effect e q filled buffer f g h =
-      let here : record { went = On; progress = q; used = next; filled = filled; buffer = buffer } ≡ done p out (taken p next s) =
+      let here : record { went = On; progress = q; used = next; filled = filled; buffer = buffer } ≡ effectOf p out (taken p next s) =
       λ i. record { went = On; progress = f i; used = next; filled = g i; buffer = h i } in
-      here ∙ ap (λ (x : Outcome Answer). done p out (answered p next (x .answer) (x .state))) e
+      here ∙ ap (λ (x : Outcome Answer). effectOf p out (answered p next (x .answer) (x .state))) e
 
   pub refused-effect : (number : ℕ) → outcome (Refused number) s ≡ o → o .state ≡ p .state → (filled : ℕ) (buffer : List ℕ) → filled ≡ length (refusedWord ++ line (number ∷ p .records ∷ [])) → buffer ≡ put 0 (refusedWord ++ line (number ∷ p .records ∷ [])) out
-      → record { went = Ended; progress = record { state = s; records = p .records; pairs = p .pairs }; used = 0; filled = filled; buffer = buffer } ≡ done p out (answered p next (o .answer) (o .state))
+      → record { went = Ended; progress = record { state = s; records = p .records; pairs = p .pairs }; used = 0; filled = filled; buffer = buffer } ≡ effectOf p out (answered p next (o .answer) (o .state))
   unfolding refusedLine
   refused-effect number e f filled buffer g h =
       let same : s ≡ p .state = ap (λ (x : Outcome Answer). x .state) e ∙ f in
-      let here : record { went = Ended; progress = record { state = s; records = p .records; pairs = p .pairs }; used = 0; filled = filled; buffer = buffer } ≡ done p out (Ends (refusedLine number p)) =
+      let here : record { went = Ended; progress = record { state = s; records = p .records; pairs = p .pairs }; used = 0; filled = filled; buffer = buffer } ≡ effectOf p out (Ends (refusedLine number p)) =
       λ i. record { went = Ended; progress = record { state = same i; records = p .records; pairs = p .pairs }; used = 0; filled = g i; buffer = h i } in
-      here ∙ ap (λ (x : Outcome Answer). done p out (answered p next (x .answer) (x .state))) e
+      here ∙ ap (λ (x : Outcome Answer). effectOf p out (answered p next (x .answer) (x .state))) e
 
 -- ---- what the window shows
 
@@ -84,11 +89,11 @@ module _ (p : Progress) (left : ℕ) (window : List ℕ) (ended : Bool) (out : L
   step-waits e = rw e
 
   module _ (telling : tells left window ended ≡ true) where
-    pub step-reads : (r : Reading) → reading (shown left window) 0 ≡ r → stepped p left window ended out ≡ done p out (deed p r)
+    pub step-reads : (r : Reading) → reading (shown left window) 0 ≡ r → stepped p left window ended out ≡ effectOf p out (deed p r)
     unfolding stepped
     step-reads r e = rw (telling, e)
 
-    pub step-found : (found : Record) (next : ℕ) → reading (shown left window) 0 ≡ Found found next → stepped p left window ended out ≡ done p out (answered p next (heard (p .state) found .answer) (heard (p .state) found .state))
+    pub step-found : (found : Record) (next : ℕ) → reading (shown left window) 0 ≡ Found found next → stepped p left window ended out ≡ effectOf p out (answered p next (heard (p .state) found .answer) (heard (p .state) found .state))
     unfolding deed
     step-found found next e = step-reads (Found found next) e
 
@@ -97,7 +102,7 @@ module _ (p : Progress) (left : ℕ) (window : List ℕ) (ended : Bool) (out : L
         → record { went = Ended; progress = p; used = 0; filled = filled; buffer = buffer } ≡ stepped p left window ended out
     unfolding deed refusedLine
     step-refused number place e filled buffer g h =
-        let here : record { went = Ended; progress = p; used = 0; filled = filled; buffer = buffer } ≡ done p out (Ends (refusedLine number p)) =
+        let here : record { went = Ended; progress = p; used = 0; filled = filled; buffer = buffer } ≡ effectOf p out (Ends (refusedLine number p)) =
         λ i. record { went = Ended; progress = p; used = 0; filled = g i; buffer = h i } in
         here ∙ sym (step-reads (refusedReading number place) e)
 
@@ -105,23 +110,23 @@ module _ (p : Progress) (left : ℕ) (window : List ℕ) (ended : Bool) (out : L
         → record { went = Ended; progress = p; used = 0; filled = filled; buffer = buffer } ≡ stepped p left window ended out
     unfolding deed
     step-ends e filled buffer g h =
-        let here : record { went = Ended; progress = p; used = 0; filled = filled; buffer = buffer } ≡ done p out (Ends (endLine p)) =
+        let here : record { went = Ended; progress = p; used = 0; filled = filled; buffer = buffer } ≡ effectOf p out (Ends (endLine p)) =
         λ i. record { went = Ended; progress = p; used = 0; filled = g i; buffer = h i } in
         here ∙ sym (step-reads End e)
 
   -- ---- what a run keeps
 
-  still : Kept p left → (lines : List ℕ) → Kept (done p out (Ends lines) .progress) (left - done p out (Ends lines) .used)
+  still : Kept p left → (lines : List ℕ) → Kept (effectOf p out (Ends lines) .progress) (left - effectOf p out (Ends lines) .used)
   still h lines = rw (sub-zero left) h
 
-  kept-answer : Kept p left → (next : ℕ) → (4 ≤ next) × (next ≤ left) → (x : Answer) (s : State) → Sound s → Kept (done p out (answered p next x s) .progress) (left - done p out (answered p next x s) .used)
+  kept-answer : Kept p left → (next : ℕ) → (4 ≤ next) × (next ≤ left) → (x : Answer) (s : State) → Sound s → Kept (effectOf p out (answered p next x s) .progress) (left - effectOf p out (answered p next x s) .used)
   kept-answer h next within Accepted s sound =
       let records = h .few-records in
       let pairs = h .few-pairs in
       record { sound = without-kept s sound (length (readyOf s)); few-records = omega arith; few-pairs = omega (arith, ready-few s sound) }
   kept-answer h next within (Refused number) s sound = still h (refusedLine number p)
 
-  kept-deed : Kept p left → (r : Reading) → reading (shown left window) 0 ≡ r → Kept (done p out (deed p r) .progress) (left - done p out (deed p r) .used)
+  kept-deed : Kept p left → (r : Reading) → reading (shown left window) 0 ≡ r → Kept (effectOf p out (deed p r) .progress) (left - effectOf p out (deed p r) .used)
   unfolding deed
   kept-deed h (Found found next) e =
       let within = found-ends (shown left window) 0 e in
@@ -133,7 +138,7 @@ module _ (p : Progress) (left : ℕ) (window : List ℕ) (ended : Bool) (out : L
   unfolding stepped
   kept-step h = go (tells left window ended)
     where
-      go : (b : Bool) → Kept (cond b (done p out (deed p (reading (shown left window) 0))) (waits p out) .progress) (left - cond b (done p out (deed p (reading (shown left window) 0))) (waits p out) .used)
+      go : (b : Bool) → Kept (cond b (effectOf p out (deed p (reading (shown left window) 0))) (waits p out) .progress) (left - cond b (effectOf p out (deed p (reading (shown left window) 0))) (waits p out) .used)
       go true = kept-deed h (reading (shown left window) 0) refl
       go false = rw (sub-zero left) h
 

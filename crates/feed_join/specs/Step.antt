@@ -32,16 +32,16 @@ pub record Effect : Type 0 where
   pub filled : ℕ
   pub buffer : List ℕ
 
-abbrev pub done : Progress → List ℕ → Deed → Effect
-done p out (Ends lines) = record { went = Ended; progress = p; used = 0; filled = length lines; buffer = put 0 lines out }
-done p out (Goes lines next q) = record { went = On; progress = q; used = next; filled = length lines; buffer = put 0 lines out }
+abbrev pub effectOf : Progress → List ℕ → Deed → Effect
+effectOf p out (Ends lines) = record { went = Ended; progress = p; used = 0; filled = length lines; buffer = put 0 lines out }
+effectOf p out (Goes lines next q) = record { went = On; progress = q; used = next; filled = length lines; buffer = put 0 lines out }
 
 -- More changes nothing.
 abbrev pub waits : Progress → List ℕ → Effect
 waits p out = record { went = More; progress = p; used = 0; filled = 0; buffer = out }
 
 unfoldable pub stepped : Progress → ℕ → List ℕ → Bool → List ℕ → Effect
-stepped p left window ended out = cond (tells left window ended) (done p out (deed p (reading (shown left window) 0))) (waits p out)
+stepped p left window ended out = cond (tells left window ended) (effectOf p out (deed p (reading (shown left window) 0))) (waits p out)
 
 -- the join by value, the lent places and the counts as a progress
 abbrev pub progressWith : Join → Rows → Rows → Rows → Counts → Progress

@@ -20,7 +20,7 @@ ghost use Rattle.join.specs.Calls.{outcome, readyOf};
 ghost use Rattle.feed.specs.Record.{streamKnown};
 ghost use Rattle.lines.specs.Line.{line};
 ghost use Rattle.feed_join.specs.Printed.{refusedWord, pairLines, endLine, refusedLine, heard, onward, answered};
-ghost use Rattle.feed_join.specs.Step.{effectWith, done, tells, stepped, progressWith, Kept, room};
+ghost use Rattle.feed_join.specs.Step.{effectWith, effectOf, tells, stepped, progressWith, Kept, room};
 
 // How many bytes a step may put out: the lines of 256 pairs.
 pub const ROOM: usize = 22528;
@@ -164,7 +164,7 @@ fn take_in(
     out: &mut [u8],
 ) -> Stepped
     requires { ⌜ (Sound (stateWith join (now a) (now b) (now rows))) × (streamKnown «record» ≡ true) × (room ≤ length (now out)) × (counts .records < 4294967295) × (counts .pairs < 1000000000000) ⌝ }
-    ensures { λ r. ⌜ effectWith r (now (a .exit)) (now (b .exit)) (now (rows .exit)) (now (out .exit)) ≡ done (progressWith join (now (a .entry)) (now (b .entry)) (now (rows .entry)) counts) (now (out .entry)) (answered (progressWith join (now (a .entry)) (now (b .entry)) (now (rows .entry)) counts) next (heard (stateWith join (now (a .entry)) (now (b .entry)) (now (rows .entry))) «record» .answer) (heard (stateWith join (now (a .entry)) (now (b .entry)) (now (rows .entry))) «record» .state)) ⌝ }
+    ensures { λ r. ⌜ effectWith r (now (a .exit)) (now (b .exit)) (now (rows .exit)) (now (out .exit)) ≡ effectOf (progressWith join (now (a .entry)) (now (b .entry)) (now (rows .entry)) counts) (now (out .entry)) (answered (progressWith join (now (a .entry)) (now (b .entry)) (now (rows .entry)) counts) next (heard (stateWith join (now (a .entry)) (now (b .entry)) (now (rows .entry))) «record» .answer) (heard (stateWith join (now (a .entry)) (now (b .entry)) (now (rows .entry))) «record» .state)) ⌝ }
 {
     let called = hear(join, a, b, rows, record);
     let after = called.join;

@@ -1,19 +1,31 @@
 -- The contract of each public call allows one answer, one join and one content of the places that it is lent.
+use mathlib.Core.List.{[]}
 use denote.Ref.{now}
 use Rattle.unique.specs.Unique.{OneResult, OneOutcome}
 use Rattle.unique.proofs.Equation.{one-by-equation, outcome-by-equation, agree}
 use Rattle.lists.specs.Store.{Rows}
 use Rattle.journal.specs.declared.Answer.{Answer}
+use Rattle.join.specs.declared.Join.{Join}
 use Rattle.join.specs.declared.Called.{Called}
 use Rattle.join.specs.declared.Taken.{Taken}
-use Rattle.join.specs.State.{stateWith}
+use Rattle.join.specs.State.{Sound, stateWith}
 use Rattle.join.specs.Calls.{Outcome, outcome}
+use Rattle.join.proofs.side_of.Reads as side-of
 use Rattle.join.proofs.Join.fresh.Reads as fresh
 use Rattle.join.proofs.Join.sound.Reads as sound
 use Rattle.join.proofs.Join.entry.Reads as entry
 use Rattle.join.proofs.Join.mark.Reads as mark
 use Rattle.join.proofs.Join.close.Reads as close
 use Rattle.join.proofs.Join.take.Reads as take
+use Rattle.join.proofs.Join.entry_on.Reads as entry-on
+use Rattle.join.proofs.Join.mark_on.Reads as mark-on
+use Rattle.join.proofs.Join.close_on.Reads as close-on
+use Rattle.join.proofs.Join.take_on.Reads as take-on
+use Rattle.join.proofs.Join.ready_on.Reads as ready-on
+use Rattle.join.proofs.Join.drop_on.Reads as drop-on
+
+one-side-of : OneResult side-of.Post
+one-side-of = one-by-equation _ _
 
 one-fresh : OneResult fresh.Post
 one-fresh = one-by-equation _ _
@@ -32,3 +44,24 @@ one-close κs args x y left other p q = let e = agree p q in λ i. (record { ans
 
 one-take : OneOutcome {Seen = Taken × Rows} (λ κs r left. (r, now (left .1 .1 .1 .0))) take.Post
 one-take κs args x y left other p q = let e = agree p q in λ i. (record { answer = e i .answer; join = e i .state .join }, e i .state .rows)
+
+-- ---- the calls after judging
+
+one-entry-on : OneOutcome {Seen = Outcome Answer} (λ κs r left. outcome (r .answer) (stateWith (r .join) (now (left .1 .0)) (now (left .1 .1 .0)) (now (left .1 .1 .1 .0)))) entry-on.Post
+one-entry-on = outcome-by-equation _ _
+
+-- A mark and a close promise something only where some queue makes the state sound, as it is after judging.
+one-mark-on : (rows : Rows) → OneOutcome {Seen = Called × (Rows × Rows)} (λ κs r left. (r, (now (left .1 .0), now (left .1 .1 .0)))) (λ κs args r left. Sound (stateWith (args .0) (now (args .1 .0)) (now (args .1 .1 .0)) rows) × mark-on.Post κs args r left)
+one-mark-on rows κs args x y left other p q = let e = agree (p .1 rows (p .0)) (q .1 rows (q .0)) in λ i. (record { answer = e i .answer; join = e i .state .join }, (e i .state .inA, e i .state .inB))
+
+one-close-on : (rows : Rows) → OneOutcome {Seen = Called × (Rows × Rows)} (λ κs r left. (r, (now (left .1 .0), now (left .1 .1 .0)))) (λ κs args r left. Sound (stateWith (args .0) (now (args .1 .0)) (now (args .1 .1 .0)) rows) × close-on.Post κs args r left)
+one-close-on rows κs args x y left other p q = let e = agree (p .1 rows (p .0)) (q .1 rows (q .0)) in λ i. (record { answer = e i .answer; join = e i .state .join }, (e i .state .inA, e i .state .inB))
+
+one-take-on : OneOutcome {Seen = Taken × Rows} (λ κs r left. (r, now (left .1 .0))) take-on.Post
+one-take-on κs args x y left other p q = let e = agree (p [] []) (q [] []) in λ i. (record { answer = e i .answer; join = e i .state .join }, e i .state .rows)
+
+one-ready-on : OneResult ready-on.Post
+one-ready-on κs args x y left other p q = agree (p .0) (q .0)
+
+one-drop-on : OneOutcome {Seen = Join × Rows} (λ κs r left. (r, now (left .1 .0))) drop-on.Post
+one-drop-on κs args x y left other p q = let e = agree (p [] []) (q [] []) in λ i. (e i .join, e i .rows)

@@ -2,14 +2,14 @@
 use borrow.Author.Needs.{needs}
 use Prim.Native.Nat.{_+_, _-_, _≤_}
 use native.Mathlib.Omega.{arith}
-use mathlib.Core.Path.{_≡_, sym}
+use mathlib.Core.Path.{_≡_, sym, subst}
 use denote.Ref.{now}
 use lib.ListN.{length}
 use lib.Seq.{length-take-le}
-use Rattle.pairing.specs.declared.Rule.the-variants.{Equal}
-use Rattle.join.specs.State.{stateWith, freshState}
+use Rattle.feed_join.specs.Printed.{Progress}
 use Rattle.feed_join.specs.Step.{progressWith, Kept}
-use Rattle.feed_stream.proofs.Fresh.{fresh-with, kept-fresh}
+use Rattle.feed_join.proofs.Steps.{kept-begun}
+use Rattle.feed_stream.proofs.Fresh.{begun-with}
 use Rattle.feed_stream.proofs.join_bytes.Statement.{statement}
 use Rattle.feed_stream.proofs.join_bytes.Tie as tie
 
@@ -40,10 +40,9 @@ large-buffer-requires c κs = search needs
 
 loop-holds : tie.Need-loop-holds Inv-loop μ-loop
 loop-holds c =
-    let empty : stateWith (c .before .fresh .result) (c .before .before .before .before .no-places .result) (c .before .before .before .no-places2 .result) (c .before .before .no-places3 .result) ≡ freshState Equal =
-    fresh-with Equal (c .before .fresh .ensures) (c .before .before .before .before .no-places .ensures) (c .before .before .before .no-places2 .ensures) (c .before .before .no-places3 .ensures) in
+    let start = begun-with (c .before .fresh .ensures) (c .before .before .before .before .no-places .ensures) (c .before .before .before .no-places2 .ensures) (c .before .before .no-places3 .ensures) in
     let few = c .before .before .before .before .before .before .pre in
-    (kept-fresh Equal _ empty (omega arith), omega arith, omega arith, sym (c .large-buffer .ensures))
+    (subst (λ (p : Progress). Kept p (length (now (c .before .before .before .before .before .before .args .feed)) - 0)) (sym start) (kept-begun _ (omega arith)), omega arith, omega arith, sym (c .large-buffer .ensures))
 
 slice-aggregate-make-room : tie.Need-slice-aggregate-make-room Inv-loop μ-loop
 slice-aggregate-make-room c = search needs

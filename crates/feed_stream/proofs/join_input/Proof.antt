@@ -2,14 +2,14 @@
 use borrow.Author.Needs.{needs}
 use Prim.Native.Nat.{_-_, _≤_}
 use native.Mathlib.Omega.{arith}
-use mathlib.Core.Path.{_≡_, sym}
+use mathlib.Core.Path.{_≡_, sym, subst}
 use lib.ListN.{length}
 use lib.Seq.{length-take-le}
 use Rattle.feed_join.specs.Step.{progressWith, Kept}
-use Rattle.pairing.specs.declared.Rule.the-variants.{Equal}
-use Rattle.join.specs.State.{stateWith, freshState}
+use Rattle.feed_join.proofs.Steps.{kept-begun}
+use Rattle.feed_join.specs.Printed.{Progress}
 use Rattle.feed_stream.proofs.Ending.{remaining, less-on, less-more}
-use Rattle.feed_stream.proofs.Fresh.{fresh-with, kept-fresh}
+use Rattle.feed_stream.proofs.Fresh.{begun-with}
 use Rattle.feed_stream.proofs.join_input.Statement.{statement}
 use Rattle.feed_stream.proofs.join_input.Tie as tie
 
@@ -45,9 +45,8 @@ large-buffer-requires-2 c κs = search needs
 
 loop-holds : tie.Need-loop-holds Inv-loop μ-loop
 loop-holds c =
-    let empty : stateWith (c .before .before .fresh .result) (c .before .before .before .before .before .no-places .result) (c .before .before .before .before .no-places2 .result) (c .before .before .before .no-places3 .result) ≡ freshState Equal =
-    fresh-with Equal (c .before .before .fresh .ensures) (c .before .before .before .before .before .no-places .ensures) (c .before .before .before .before .no-places2 .ensures) (c .before .before .before .no-places3 .ensures) in
-    (kept-fresh Equal _ empty (omega arith), omega arith, omega arith, omega arith, sym (c .before .large-buffer .ensures), sym (c .large-buffer2 .ensures))
+    let start = begun-with (c .before .before .fresh .ensures) (c .before .before .before .before .before .no-places .ensures) (c .before .before .before .before .no-places2 .ensures) (c .before .before .before .no-places3 .ensures) in
+    (subst (λ (p : Progress). Kept p (c .before .before .before .before .before .before .args .limit)) (sym start) (kept-begun _ (omega arith)), omega arith, omega arith, omega arith, sym (c .before .large-buffer .ensures), sym (c .large-buffer2 .ensures))
 
 slice-aggregate-make-room : tie.Need-slice-aggregate-make-room Inv-loop μ-loop
 slice-aggregate-make-room c = search needs
