@@ -1,5 +1,5 @@
 -- Whatever windows show a feed, what is put out is what must be printed.
-use Prim.Native.Nat.{ℕ, zero, suc, _+_, _-_, _≤_, _<_, min}
+use Prim.Native.Nat.{ℕ, zero, suc, _+_, _-_, _≤_, _<_}
 use native.Mathlib.Omega.{arith}
 use mathlib.Core.Bool.{Bool, true, false, cond, _&&_, _||_, and-false, or-true, false≢true}
 use mathlib.Core.List.{List, [], _∷_, _++_, append-assoc, append-nil, IsPrefix}
@@ -20,9 +20,9 @@ use Rattle.feed.specs.Reading.{reading, readingFrom}
 use Rattle.feed.proofs.Fields.{drop-take}
 use Rattle.feed.proofs.Locality.{reading-local}
 use Rattle.feed.proofs.Readings.{found-ends}
-use Rattle.feed_join.specs.Printed.{Progress, begun, pairLines, endLine, refusedLine, heard, Deed, Ends, Goes, onward, answered, deed, continued, printedFrom, printed}
+use Rattle.feed_join.specs.Printed.{Progress, begun, pairLines, endLine, refusedLine, heard, Ends, Goes, onward, answered, deed, continued, printedFrom, printed}
 use Rattle.feed_join.specs.Step.{shown, tells}
-use Rattle.feed_join.specs.Windows.{Window, Run, bytesIn, endsIn, runFrom, runOn, run, wide, Pieces}
+use Rattle.feed_join.specs.Windows.{Window, Run, bytesIn, endsIn, runFrom, runOn, wide, Pieces}
 
 -- ---- a window that tells shows the record that stands first in what is left of the feed
 

@@ -19,7 +19,7 @@ ghost use Rattle.join.specs.State.{Sound, stateWith};
 ghost use Rattle.join.specs.Calls.{outcome, readyOf};
 ghost use Rattle.feed.specs.Record.{streamKnown};
 ghost use Rattle.lines.specs.Line.{line};
-ghost use Rattle.feed_join.specs.Printed.{refusedWord, pairLines, endLine, refusedLine, heard, onward, answered};
+ghost use Rattle.feed_join.specs.Printed.{refusedWord, pairLines, endLine, heard, onward, answered};
 ghost use Rattle.feed_join.specs.Step.{effectWith, effectOf, tells, stepped, progressWith, Kept, room};
 
 // How many bytes a step may put out: the lines of 256 pairs.

@@ -1,9 +1,8 @@
 -- `put_pairs` meets its contract. The invariant of its loop: the lines of the first i pairs are put in. The measure is how many are left.
-use Prim.Native.Nat.{ℕ, suc, _+_, _-_, _*_, _≤_}
-use native.Mathlib.Numerals.{add-one}
+use Prim.Native.Nat.{_+_, _-_, _*_, _≤_}
 use native.Mathlib.Omega.{arith}
-use mathlib.Core.List.{List, [], _∷_, _++_, flatMap}
-use mathlib.Core.Path.{_≡_, refl, sym, ap, _∙_}
+use mathlib.Core.List.{[], flatMap}
+use mathlib.Core.Path.{_≡_, refl, sym}
 use denote.Ref.{now}
 use lib.ListN.{length, take, getD}
 use Rattle.lists.specs.Put.{put}
