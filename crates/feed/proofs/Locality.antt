@@ -19,7 +19,8 @@ use Rattle.feed.specs.declared.Record.{Record}
 use Rattle.feed.specs.declared.Record.the-variants.{Note}
 use Rattle.feed.specs.Number.{value}
 use Rattle.feed.specs.Kind.{Kind, entry, mark, close, pair, unpacked, fieldsIn}
-use Rattle.feed.specs.Record.{entryFrom, markFrom, closeFrom, pairFrom, recordIn, streamKnown}
+use Rattle.pairing.specs.Numbers.{pairIn}
+use Rattle.feed.specs.Record.{entryFrom, markFrom, closeFrom, recordIn, streamKnown}
 use Rattle.feed.specs.Check.{firstOf, unless}
 use Rattle.feed.specs.Reading.{lengthIn, kindIn, outside, kindChecks, headUnless, headOf, foundAt, readingOf, readingFrom, reading, pairReadingOf, pairReadingFrom, pairReading}
 use Rattle.feed.proofs.Fields.{total, drop-take, unpacked-take}
@@ -86,7 +87,7 @@ unfolding pairReading pairReadingFrom
 pair-local s at = sym (ap (pairReadingOf at (take 68 (drop at s))) (head-in-68 (drop at s) Output) ∙ go (headOf Output (drop at s)))
   where
     go : (head : Head) → pairReadingOf at (take 68 (drop at s)) head ≡ pairReadingOf at (drop at s) head
-    go (Whole kind size) = ap (λ (numbers : List ℕ). FoundPair (pairFrom numbers) (at + 2 + size)) (fields-in-68 (drop at s) pair (omega arith))
+    go (Whole kind size) = ap (λ (numbers : List ℕ). FoundPair (pairIn numbers) (at + 2 + size)) (fields-in-68 (drop at s) pair (omega arith))
     go (refusedHead number) = refl
     go noHead = refl
 

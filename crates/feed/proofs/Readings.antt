@@ -14,7 +14,8 @@ use Rattle.feed.specs.declared.Record.the-variants.{Note}
 use Rattle.feed.specs.declared.PairReading.the-variants.{Found as FoundPair, Refused as refusedPair, End as noPair}
 use Rattle.feed.specs.declared.Reading.the-variants.{Found, Refused, End}
 use Rattle.feed.specs.Kind.{pair, kindsOf, fieldsIn}
-use Rattle.feed.specs.Record.{recordIn, pairFrom, streamKnown}
+use Rattle.pairing.specs.Numbers.{pairIn}
+use Rattle.feed.specs.Record.{recordIn, streamKnown}
 use Rattle.feed.specs.Check.{firstOf, unless}
 use Rattle.feed.specs.Reading.{headOf, foundAt, readingOf, readingFrom, reading, pairReadingFrom, pairReading}
 use Rattle.feed.proofs.Heads.{inside-elim, Row, here, there, head-none, whole-elim, whole-row}
@@ -52,7 +53,7 @@ module _ (s : List ℕ) (at : ℕ) where
   unfolding pairReading pairReadingFrom
   pair-refused number h = rw h
 
-  pub pair-whole : (kind size : ℕ) → headOf Output (drop at s) ≡ Whole kind size → pairReading s at ≡ FoundPair (pairFrom (fieldsIn pair (drop at s))) (at + 2 + size)
+  pub pair-whole : (kind size : ℕ) → headOf Output (drop at s) ≡ Whole kind size → pairReading s at ≡ FoundPair (pairIn (fieldsIn pair (drop at s))) (at + 2 + size)
   unfolding pairReading pairReadingFrom
   pair-whole kind size h = rw h
 

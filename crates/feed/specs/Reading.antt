@@ -18,7 +18,8 @@ use Rattle.feed.specs.declared.Record.{Record}
 use Rattle.feed.specs.Number.{value}
 use Rattle.feed.specs.Check.{firstOf, unless}
 use Rattle.feed.specs.Kind.{pair, lengthsOf, fieldsIn}
-use Rattle.feed.specs.Record.{recordIn, pairFrom, streamKnown}
+use Rattle.pairing.specs.Numbers.{pairIn}
+use Rattle.feed.specs.Record.{recordIn, streamKnown}
 
 -- the length and the kind that stand at the front of some bytes
 abbrev pub lengthIn : List ℕ → ℕ
@@ -82,7 +83,7 @@ reading s at = readingFrom at (drop at s)
 
 -- a reading of an output feed
 abbrev pub pairReadingOf : ℕ → List ℕ → Head → PairReading
-pairReadingOf at bs (Whole kind size) = FoundPair (pairFrom (fieldsIn pair bs)) (at + 2 + size)
+pairReadingOf at bs (Whole kind size) = FoundPair (pairIn (fieldsIn pair bs)) (at + 2 + size)
 pairReadingOf at bs (refusedHead number) = refusedPair number at
 pairReadingOf at bs noHead = noPair
 

@@ -10,13 +10,14 @@ use lib.ListN.{length, drop, take}
 use borrow.Author.Tests.{ltb-false}
 use Rattle.lists.specs.Put.{put}
 use Rattle.pairing.specs.declared.Pair.{Pair}
+use Rattle.pairing.specs.Numbers.{pairNumbers}
 use Rattle.feed.specs.declared.PairReading.the-variants.{Found as FoundPair}
 use Rattle.feed.specs.declared.Reading.the-variants.{Found}
 use Rattle.feed.specs.declared.Record.{Record}
 use Rattle.feed_write.specs.declared.Writing.{Writing}
 use Rattle.feed_write.specs.declared.Writing.the-variants.{Written, Refused}
 use Rattle.feed.specs.Kind.{pair}
-use Rattle.feed.specs.Record.{pairNumbers, recordBytes, pairBytes, streamKnown}
+use Rattle.feed.specs.Record.{recordBytes, pairBytes, streamKnown}
 use Rattle.feed.specs.Check.{firstOf, unless}
 use Rattle.feed.specs.Reading.{reading, pairReading}
 use Rattle.feed_write.specs.Writing.{writing, recordWriting, pairWriting}

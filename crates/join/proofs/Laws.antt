@@ -24,6 +24,7 @@ use Rattle.pairing.specs.declared.Rule.{Rule}
 use Rattle.pairing.specs.declared.Side.{Side}
 use Rattle.pairing.specs.declared.Side.the-variants.{A, B}
 use Rattle.pairing.specs.Pair.{pairs, comesBefore}
+use Rattle.pairing.specs.Numbers.{pairNumbers, pairIn}
 use Rattle.pairing.specs.Side.{pairFrom, newPairs}
 use Rattle.pairing.proofs.Arrival.{Later, newPairs-map, newPairs-ascending}
 use Rattle.journal.specs.declared.Answer.{Answer}
@@ -118,7 +119,7 @@ module _ (rule : Rule) (side : Side) (own other : Half) (waiting : Queue) (mine 
   others-length = content-length area.heldIn area.rowOf area.places 5 (other .area .count) others (stand .holds-others)
 
   waiting-length : length (v .waiting) ≡ waiting .count
-  waiting-length = content-length queue.pairIn queue.rowOf queue.places 8 (waiting .count) rows (stand .holds-rows)
+  waiting-length = content-length pairIn pairNumbers queue.places 8 (waiting .count) rows (stand .holds-rows)
 
   -- what is refused stands as it stood
   pub leaves-all : Leaves v own other waiting mine others rows
@@ -332,8 +333,8 @@ module _ (s : State) (h : queue.Holds (s .join .queue) (s .rows)) where
   pub none-waits : s .join .queue .count ≡ 0 → waitingIn s ≡ []
   none-waits e = rw e
 
-  pub one-waits : 0 < s .join .queue .count → waitingIn s ≡ getD (waitingIn s) 0 (queue.pairIn []) ∷ drop 1 (waitingIn s)
-  one-waits few = drop-cons (waitingIn s) 0 (queue.pairIn []) (omega (arith, content-length queue.pairIn queue.rowOf queue.places 8 (s .join .queue .count) (s .rows) h))
+  pub one-waits : 0 < s .join .queue .count → waitingIn s ≡ getD (waitingIn s) 0 (pairIn []) ∷ drop 1 (waitingIn s)
+  one-waits few = drop-cons (waitingIn s) 0 (pairIn []) (omega (arith, content-length pairIn pairNumbers queue.places 8 (s .join .queue .count) (s .rows) h))
 
 pub take-none : (s : State) (closed : Bool) → closed ≡ bothClosed s → waitingIn s ≡ [] → outcome (cond closed Finished Waiting) s ≡ takeOn s
 take-none s closed e f = rw (f, ← e) (go closed)
@@ -350,7 +351,7 @@ module _ (s : State) (p : Pair) (ps : List Pair) (e : waitingIn s ≡ p ∷ ps) 
   take-hands f = rw (e, f)
 
 -- the first waiting pair, which is ready, and the state without it
-pub take-first : (s : State) → queue.Holds (s .join .queue) (s .rows) → 0 < s .join .queue .count → (p : Pair) (left : State) → p ≡ getD (waitingIn s) 0 (queue.pairIn []) → left ≡ without 1 s → readyIn s p ≡ true
+pub take-first : (s : State) → queue.Holds (s .join .queue) (s .rows) → 0 < s .join .queue .count → (p : Pair) (left : State) → p ≡ getD (waitingIn s) 0 (pairIn []) → left ≡ without 1 s → readyIn s p ≡ true
     → outcome (Handed p) left ≡ takeOn s
 take-first s h few p left e f g =
-    (λ i. outcome (Handed (e i)) (f i)) ∙ take-hands s (getD (waitingIn s) 0 (queue.pairIn [])) (drop 1 (waitingIn s)) (one-waits s h few) (ap (readyIn s) (sym e) ∙ g)
+    (λ i. outcome (Handed (e i)) (f i)) ∙ take-hands s (getD (waitingIn s) 0 (pairIn [])) (drop 1 (waitingIn s)) (one-waits s h few) (ap (readyIn s) (sym e) ∙ g)
