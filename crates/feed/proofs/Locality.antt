@@ -19,9 +19,9 @@ use Rattle.feed.specs.declared.Record.{Record}
 use Rattle.feed.specs.declared.Record.the-variants.{Note}
 use Rattle.feed.specs.Number.{value}
 use Rattle.feed.specs.Kind.{Kind, entry, mark, close, pair, unpacked, fieldsIn}
+use Rattle.lists.specs.Check.{_gives_, firstOr}
 use Rattle.pairing.specs.Numbers.{pairIn}
 use Rattle.feed.specs.Record.{entryFrom, markFrom, closeFrom, recordIn, streamKnown}
-use Rattle.feed.specs.Check.{firstOf, unless}
 use Rattle.feed.specs.Reading.{lengthIn, kindIn, outside, kindChecks, headUnless, headOf, foundAt, readingOf, readingFrom, reading, pairReadingOf, pairReadingFrom, pairReading}
 use Rattle.feed.proofs.Fields.{total, drop-take, unpacked-take}
 use Rattle.feed.proofs.Heads.{inside-elim, head-outside, head-kind}
@@ -103,8 +103,8 @@ moved-from : (base at : ℕ) (bs : List ℕ) → readingFrom (base + at) bs ≡ 
 unfolding readingFrom foundAt
 moved-from base at bs = go (headOf Input bs)
   where
-    found : (known : Bool) (r : Record) (size : ℕ) → unless (firstOf ((not known, 1) ∷ [])) (λ (number : ℕ). Refused number (base + at)) (Found r (base + at + 2 + size))
-        ≡ moved base (unless (firstOf ((not known, 1) ∷ [])) (λ (number : ℕ). Refused number at) (Found r (at + 2 + size)))
+    found : (known : Bool) (r : Record) (size : ℕ) → firstOr (λ (number : ℕ). Refused number (base + at)) (Found r (base + at + 2 + size)) ((not known gives 1) ∷ [])
+        ≡ moved base (firstOr (λ (number : ℕ). Refused number at) (Found r (at + 2 + size)) ((not known gives 1) ∷ []))
     found true r size = ap (Found r) (omega arith)
     found false r size = refl
 

@@ -12,6 +12,7 @@ use Rattle.interval.specs.Interval.{properOf}
 use Rattle.lists.specs.Judge.{chain}
 use Rattle.lists.specs.Sort.{insertAllBy}
 use Rattle.lists.specs.Store.{Rows}
+use Rattle.lists.specs.Check.{Check, _gives_}
 use Rattle.lists.proofs.All.{each-map}
 use Rattle.lists.proofs.Bools.{and-left, and-right}
 use Rattle.lists.proofs.Judge.{chain-each, each-chain}
@@ -32,7 +33,7 @@ use Rattle.journal.specs.declared.Answer.the-variants.{Accepted, Refused}
 use Rattle.journal.specs.declared.Gate.{Gate}
 use Rattle.journal.specs.declared.Gate.the-variants.{Open}
 use Rattle.journal.specs.declared.Journal.{Journal}
-use Rattle.journal.specs.Answer.{Row, _gives_, firstOf, unlessRefused}
+use Rattle.journal.specs.Answer.{firstOf, unlessRefused}
 use Rattle.journal.specs.Journal.{wanted, isClosed, isBehind, moved, entered}
 use Rattle.area.specs.declared.Area.{Area}
 use Rattle.area.specs.Area as area
@@ -66,7 +67,7 @@ formed-ascending rule side x others e =
 -- ---- rows of the table
 
 -- where nothing before applies, the rest decides
-pub firstOf-append : (rows more : List Row) → firstOf (rows ++ more) ≡ unlessRefused (firstOf rows) (firstOf more) (firstOf rows)
+pub firstOf-append : (rows more : List Check) → firstOf (rows ++ more) ≡ unlessRefused (firstOf rows) (firstOf more) (firstOf rows)
 firstOf-append [] more = refl
 firstOf-append (row ∷ rows) more = go (row .when) (firstOf-append rows more)
   where
@@ -85,7 +86,7 @@ accepted-not false number rest e = (refl, e)
 -- ---- an entry of one side
 
 -- the rows before the pairs are counted
-abbrev pub firstRows : Journal → Gate → ℕ → Entry → List Row
+abbrev pub firstRows : Journal → Gate → ℕ → Entry → List Check
 firstRows own other count e =
     (isClosed (own .gate) gives 2)
     ∷ (not (properOf (e .span)) gives 3)
@@ -235,7 +236,7 @@ module _ (rule : Rule) (v : View) (same : v .rule ≡ rule) (own other : Half) (
   }
 
 -- an answer, and the state that a side sees after it, are those of the call
-pub called-seen : (side : Side) (s : State) → Sound s → (rows : List Row) (after : View) (answer : Answer) → answer ≡ firstOf rows
+pub called-seen : (side : Side) (s : State) → Sound s → (rows : List Check) (after : View) (answer : Answer) → answer ≡ firstOf rows
     → outcome answer (stateOf side (unlessRefused answer after (view side s))) ≡ called s rows (stateOf side after)
 called-seen side s ok rows after answer e = ap (λ (a : Answer). outcome a (stateOf side (unlessRefused a after (view side s)))) e ∙ ap (outcome (firstOf rows)) (go (firstOf rows))
   where
@@ -310,14 +311,14 @@ view-own B s = refl
 
 -- ---- what rows answer
 
-module _ (s : State) (rows : List Row) (next : State) (answer : Answer) (e : answer ≡ firstOf rows) where
+module _ (s : State) (rows : List Check) (next : State) (answer : Answer) (e : answer ≡ firstOf rows) where
   pub called-refused : (number : ℕ) → answer ≡ Refused number → outcome answer s ≡ called s rows next
   called-refused number f = rw (← e, f)
 
   pub called-accepted : (after : State) → answer ≡ Accepted → after ≡ next → outcome answer after ≡ called s rows next
   called-accepted after f g = rw (← e, f, g)
 
-module _ (s : State) (stream : ℕ) (rows : List Row) (next : State) where
+module _ (s : State) (stream : ℕ) (rows : List Check) (next : State) where
   pub judged-unsound : sound s ≡ false → outcome (Refused 8) s ≡ called s (judgeRows s stream ++ rows) next
   judged-unsound e = rw e
 
