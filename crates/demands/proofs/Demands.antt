@@ -18,6 +18,7 @@ use Rattle.pairing.proofs.Plain.{plain-at}
 use Rattle.journal.specs.declared.Answer.{Answer}
 use Rattle.journal.specs.declared.Answer.the-variants as answer
 use Rattle.journal.specs.Journal.{isClosed, markRows}
+use Rattle.journal.proofs.Rows.{accepted-rows}
 use Rattle.queue.specs.Queue.{ready}
 use Rattle.join.specs.declared.Took.the-variants.{Handed, Waiting, Finished, Refused}
 use Rattle.join.specs.State.{State, view, sound}
@@ -26,7 +27,7 @@ use Rattle.demands.specs.Demands.{pairsOf, EachInstant, Joins, TermsOnce
 use Rattle.demands.specs.History.{Call, Enter, Mark, Close, Take, World, begin, step, run, isRefusal}
 use Rattle.demands.proofs.Follows.{Follows, follows-run}
 use Rattle.demands.proofs.Invariant as invariant
-use Rattle.demands.proofs.Invariant.{Due, GoodWorld, quiet, began}
+use Rattle.demands.proofs.Invariant.{Due, GoodWorld, began}
 use Rattle.demands.proofs.Refused.{run-heeded}
 use Rattle.demands.proofs.Streams.{plain-joins, plain-multiplies, entries-once}
 
@@ -49,21 +50,21 @@ only-takes w h (Enter stream e) = go (entryCall (w .state) stream e .answer) ref
     go : (a : Answer) → entryCall (w .state) stream e .answer ≡ a → isRefusal a ≡ true
     go answer.Accepted k =
         let v = view (sideOf stream) (w .state) in
-        absurd (true≢false (sym (closed-side (sideOf stream) (w .state) h) ∙ quiet (judgeRows (w .state) stream ++ entryRows (sideOf stream) v e) k .1 .1 .0))
+        absurd (true≢false (sym (closed-side (sideOf stream) (w .state) h) ∙ accepted-rows (judgeRows (w .state) stream ++ entryRows (sideOf stream) v e) k .1 .1 .0))
     go (answer.Refused number) k = refl
 only-takes w h (Mark stream time) = go (markCall (w .state) stream time .answer) refl
   where
     go : (a : Answer) → markCall (w .state) stream time .answer ≡ a → isRefusal a ≡ true
     go answer.Accepted k =
         let v = view (sideOf stream) (w .state) in
-        absurd (true≢false (sym (closed-side (sideOf stream) (w .state) h) ∙ quiet (judgeRows (w .state) stream ++ markRows time (v .own)) k .1 .1 .0))
+        absurd (true≢false (sym (closed-side (sideOf stream) (w .state) h) ∙ accepted-rows (judgeRows (w .state) stream ++ markRows time (v .own)) k .1 .1 .0))
     go (answer.Refused number) k = refl
 only-takes w h (Close stream) = go (closeCall (w .state) stream .answer) refl
   where
     go : (a : Answer) → closeCall (w .state) stream .answer ≡ a → isRefusal a ≡ true
     go answer.Accepted k =
         let v = view (sideOf stream) (w .state) in
-        absurd (true≢false (sym (closed-side (sideOf stream) (w .state) h) ∙ quiet (judgeRows (w .state) stream ++ closeRows v) k .1 .1 .0))
+        absurd (true≢false (sym (closed-side (sideOf stream) (w .state) h) ∙ accepted-rows (judgeRows (w .state) stream ++ closeRows v) k .1 .1 .0))
     go (answer.Refused number) k = refl
 only-takes w h Take = refl
 

@@ -30,7 +30,7 @@ use Rattle.journal.specs.declared.Answer.{Answer}
 use Rattle.journal.specs.declared.Answer.the-variants.{Accepted, Refused}
 use Rattle.journal.specs.declared.Gate.{Gate}
 use Rattle.journal.specs.declared.Gate.the-variants.{Open, Closed}
-use Rattle.journal.specs.Answer.{Row, firstOf, unlessRefused}
+use Rattle.journal.specs.Answer.{unlessRefused}
 use Rattle.journal.specs.Journal.{wanted, below, markRows}
 use Rattle.area.specs.Area.{wantedBy}
 use Rattle.queue.specs.Queue.{ready}
@@ -38,6 +38,7 @@ use Rattle.join.specs.declared.Took.the-variants as took
 use Rattle.join.specs.State.{State, View, view, stateOf, sound, freshState}
 use Rattle.join.specs.Calls.{sideOf, arrival, formed, entryRows, afterEntry, afterMove, judgeRows, entryCall, markCall, closeCall, takeCall, takeOn, waitingIn, readyIn, bothClosed, nextOf, without, afterTake}
 use Rattle.demands.specs.History.{Call, Enter, Mark, Close, Take, ofSide, handedBy, World, begin, step, run}
+use Rattle.journal.proofs.Rows.{accepted-rows}
 use Rattle.journal.proofs.Onward.{Onward, onward-closed, onward-open, below-onward, wanted-onward, below-before, wanted-after}
 use Rattle.queue.proofs.Sound.{waiting-stored}
 use Rattle.join.proofs.View.{view-stateOf, turned, view-across}
@@ -255,31 +256,18 @@ module _ (rule : Rule) (s : State) (ofA ofB : List Entry) (out : List Pair) (g :
 
 -- ---- any call
 
--- what is accepted, no row of the table refuses
-pub quiet : (rows : List Row) → firstOf rows ≡ Accepted → All (λ (row : Row). row .when ≡ false) rows
-quiet [] h = tt
-quiet (row ∷ rows) h = go (row .when) refl (quiet rows) h
-  where
-    never : Refused (row .number) ≡ Accepted → ⊥
-    never e = let z : _≡_ {A = ℕ} 0 1 = cc in omega arith
-
-    go : (b : Bool) → row .when ≡ b → (firstOf rows ≡ Accepted → All (λ (row : Row). row .when ≡ false) rows) → cond b (Refused (row .number)) (firstOf rows) ≡ Accepted
-        → All (λ (row : Row). row .when ≡ false) (row ∷ rows)
-    go true e i k = absurd (never k)
-    go false e i k = (e, i k)
-
 pub entry-later : (s : State) (stream : ℕ) (e : Entry) → entryCall s stream e .answer ≡ Accepted → Onward (view (sideOf stream) s .own .gate) (Open (e .span .start))
 unfolding entryCall entryRows
 entry-later s stream e h =
     let v = view (sideOf stream) s in
-    let q = quiet (judgeRows s stream ++ entryRows (sideOf stream) v e) h in
+    let q = accepted-rows (judgeRows s stream ++ entryRows (sideOf stream) v e) h in
     onward-open (v .own .gate) (e .span .start) (q .1 .1 .0) (q .1 .1 .1 .1 .0)
 
 pub mark-later : (s : State) (stream time : ℕ) → markCall s stream time .answer ≡ Accepted → Onward (view (sideOf stream) s .own .gate) (Open time)
 unfolding markCall
 mark-later s stream time h =
     let v = view (sideOf stream) s in
-    let q = quiet (judgeRows s stream ++ markRows time (v .own)) h in
+    let q = accepted-rows (judgeRows s stream ++ markRows time (v .own)) h in
     onward-open (v .own .gate) time (q .1 .1 .0) (q .1 .1 .1 .0)
 
 abbrev pub GoodWorld : Rule → World → Type 0

@@ -7,9 +7,10 @@ use mathlib.Core.Path.{_≡_, refl}
 use lib.Dec.{ltb}
 use borrow.Author.Tests.{ltb-true}
 use Rattle.lists.specs.Judge.{allOf}
+use Rattle.lists.specs.Check.{Check, _gives_}
 use Rattle.pairing.specs.declared.Pair.{Pair}
 use Rattle.pairing.specs.declared.Rule.{Rule}
-use Rattle.journal.specs.Answer.{numberOf, Row, _gives_, firstOf}
+use Rattle.journal.specs.Answer.{numberOf, firstOf}
 use Rattle.journal.specs.Journal.{markRows}
 use Rattle.journal.proofs.Rows.{number-rows}
 use Rattle.join.specs.declared.Took.the-variants.{Handed, Waiting}
@@ -46,7 +47,7 @@ numberAt s (Close stream) = numberOf (closeCall s stream .answer)
 numberAt s Take = tookNumber (takeCall s .answer)
 
 -- on a sound state the row of 8 does not apply, and no other row gives 8
-judged-number : (s : State) → Sound s → (stream : ℕ) (rows : List Row) → allOf (λ (row : Row). ltb (row .number) 8) rows ≡ true → numberOf (firstOf (judgeRows s stream ++ rows)) < 8
+judged-number : (s : State) → Sound s → (stream : ℕ) (rows : List Check) → allOf (λ (row : Check). ltb (row .number) 8) rows ≡ true → numberOf (firstOf (judgeRows s stream ++ rows)) < 8
 judged-number s h stream rows low = rw (h .judged) (ltb-true _ 8 (number-rows (λ (n : ℕ). ltb n 8) ((ltb 1 stream gives 1) ∷ rows) refl low))
 
 next-number : (ready : Pair → Bool) (closed : Bool) (ps : List Pair) → tookNumber (nextOf ready closed ps) ≡ 0

@@ -7,12 +7,12 @@ use mathlib.Core.Path.{_≡_, refl, sym}
 use lib.ListN.{length}
 use lib.Dec.{ltb, eqb}
 use borrow.Author.Tests.{eq-eqb, ne-eqb, lt-ltb, le-ltb, ltb-false, eqb-true}
+use Rattle.lists.specs.Check.{_gives_, firstOr}
 use Rattle.feed.specs.declared.Feed.{Feed}
 use Rattle.feed.specs.declared.Feed.the-variants.{Input, Output}
 use Rattle.feed.specs.declared.Head.the-variants.{Whole, Refused, End}
 use Rattle.feed.specs.declared.Lengths.the-variants.{Unknown, Within}
 use Rattle.feed.specs.Kind.{Kind, kindsOf, lengthsAmong, lengthsOf}
-use Rattle.feed.specs.Check.{firstOf, unless}
 use Rattle.feed.specs.Reading.{unknown, unfit, lengthIn, kindIn, outside, kindChecks, headChecks, headUnless, headOf}
 
 -- ---- a length within limits
@@ -108,7 +108,7 @@ whole-elim feed bs {kind} {size} h =
     (unfit (lengthsOf feed (kindIn bs)) (lengthIn bs)) refl refl refl h
   where
     go : (none lone out short other bad : Bool) → outside 2 66 (lengthIn bs) ≡ out → ltb (length bs) (2 + lengthIn bs) ≡ short → unfit (lengthsOf feed (kindIn bs)) (lengthIn bs) ≡ bad
-        → cond none End (unless (firstOf ((lone, 9) ∷ (out, 10) ∷ (short, 9) ∷ (other, 11) ∷ (bad, 10) ∷ [])) Refused (Whole (kindIn bs) (lengthIn bs))) ≡ Whole kind size
+        → cond none End (firstOr Refused (Whole (kindIn bs) (lengthIn bs)) ((lone gives 9) ∷ (out gives 10) ∷ (short gives 9) ∷ (other gives 11) ∷ (bad gives 10) ∷ [])) ≡ Whole kind size
         → WholeHead feed bs kind size
     go true lone out short other bad p q r e = absurd (let z : _≡_ {A = ℕ} 0 1 = cc in omega arith)
     go false true out short other bad p q r e = absurd (let z : _≡_ {A = ℕ} 0 1 = cc in omega arith)

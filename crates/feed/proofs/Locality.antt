@@ -19,8 +19,9 @@ use Rattle.feed.specs.declared.Record.{Record}
 use Rattle.feed.specs.declared.Record.the-variants.{Note}
 use Rattle.feed.specs.Number.{value}
 use Rattle.feed.specs.Kind.{Kind, entry, mark, close, pair, unpacked, fieldsIn}
-use Rattle.feed.specs.Record.{entryFrom, markFrom, closeFrom, pairFrom, recordIn, streamKnown}
-use Rattle.feed.specs.Check.{firstOf, unless}
+use Rattle.lists.specs.Check.{_gives_, firstOr}
+use Rattle.pairing.specs.Numbers.{pairIn}
+use Rattle.feed.specs.Record.{entryFrom, markFrom, closeFrom, recordIn, streamKnown}
 use Rattle.feed.specs.Reading.{lengthIn, kindIn, outside, kindChecks, headUnless, headOf, foundAt, readingOf, readingFrom, reading, pairReadingOf, pairReadingFrom, pairReading}
 use Rattle.feed.proofs.Fields.{total, drop-take, unpacked-take}
 use Rattle.feed.proofs.Heads.{inside-elim, head-outside, head-kind}
@@ -86,7 +87,7 @@ unfolding pairReading pairReadingFrom
 pair-local s at = sym (ap (pairReadingOf at (take 68 (drop at s))) (head-in-68 (drop at s) Output) ∙ go (headOf Output (drop at s)))
   where
     go : (head : Head) → pairReadingOf at (take 68 (drop at s)) head ≡ pairReadingOf at (drop at s) head
-    go (Whole kind size) = ap (λ (numbers : List ℕ). FoundPair (pairFrom numbers) (at + 2 + size)) (fields-in-68 (drop at s) pair (omega arith))
+    go (Whole kind size) = ap (λ (numbers : List ℕ). FoundPair (pairIn numbers) (at + 2 + size)) (fields-in-68 (drop at s) pair (omega arith))
     go (refusedHead number) = refl
     go noHead = refl
 
@@ -102,8 +103,8 @@ moved-from : (base at : ℕ) (bs : List ℕ) → readingFrom (base + at) bs ≡ 
 unfolding readingFrom foundAt
 moved-from base at bs = go (headOf Input bs)
   where
-    found : (known : Bool) (r : Record) (size : ℕ) → unless (firstOf ((not known, 1) ∷ [])) (λ (number : ℕ). Refused number (base + at)) (Found r (base + at + 2 + size))
-        ≡ moved base (unless (firstOf ((not known, 1) ∷ [])) (λ (number : ℕ). Refused number at) (Found r (at + 2 + size)))
+    found : (known : Bool) (r : Record) (size : ℕ) → firstOr (λ (number : ℕ). Refused number (base + at)) (Found r (base + at + 2 + size)) ((not known gives 1) ∷ [])
+        ≡ moved base (firstOr (λ (number : ℕ). Refused number at) (Found r (at + 2 + size)) ((not known gives 1) ∷ []))
     found true r size = ap (Found r) (omega arith)
     found false r size = refl
 

@@ -8,6 +8,8 @@ use lib.Dec.{lit≤}
 use lib.ListN.{length, take, drop, length-take, length-drop}
 use lib.Seq.{take-add, drop-drop, length-take-le}
 use Rattle.pairing.specs.declared.Pair.{Pair}
+use Rattle.pairing.specs.Numbers.{pairIn}
+use Rattle.pairing.proofs.Numbers.{numbers-pair}
 use Rattle.feed.specs.declared.Feed.the-variants.{Input, Output}
 use Rattle.feed.specs.declared.Head.{Head}
 use Rattle.feed.specs.declared.Head.the-variants.{Whole, Refused as refusedHead, End as noHead}
@@ -17,7 +19,7 @@ use Rattle.feed.specs.declared.Record.{Record}
 use Rattle.feed.specs.declared.Record.the-variants.{Note}
 use Rattle.feed.specs.Number.{bytes}
 use Rattle.feed.specs.Kind.{Kind, entry, mark, close, pair, kindsOf, framed, packed, fieldsIn}
-use Rattle.feed.specs.Record.{pairFrom, recordIn, recordBytes, pairBytes, streamKnown}
+use Rattle.feed.specs.Record.{recordIn, recordBytes, pairBytes, streamKnown}
 use Rattle.feed.specs.Reading.{lengthIn, kindIn, headOf, reading, pairReadingOf, pairReadingFrom, pairReading}
 use Rattle.feed.specs.Text.{textOf, textIn, textAt, stretch}
 use Rattle.feed.proofs.Numbers.{Bytes, bytes-drop, bytes-value-take}
@@ -109,7 +111,7 @@ record PairFound (s : List ℕ) (at : ℕ) (p : Pair) (next : ℕ) : Type 0 wher
   kind : ℕ
   size : ℕ
   head : headOf Output (drop at s) ≡ Whole kind size
-  found-in : p ≡ pairFrom (fieldsIn pair (drop at s))
+  found-in : p ≡ pairIn (fieldsIn pair (drop at s))
   next-at : next ≡ at + 2 + size
 
 pair-elim : (s : List ℕ) (at : ℕ) {p : Pair} {next : ℕ} → pairReading s at ≡ FoundPair p next → PairFound s at p next
@@ -118,7 +120,7 @@ pair-elim s at {p} {next} h = go (headOf Output (drop at s)) refl h
   where
     go : (head : Head) → headOf Output (drop at s) ≡ head → pairReadingOf at (drop at s) head ≡ FoundPair p next → PairFound s at p next
     go (Whole kind size) w e =
-        let same : pairFrom (fieldsIn pair (drop at s)) ≡ p = cc in
+        let same : pairIn (fieldsIn pair (drop at s)) ≡ p = cc in
         let after : at + 2 + size ≡ next = cc in
         record { kind = kind; size = size; head = w; found-in = sym same; next-at = sym after }
     go (refusedHead number) w e = absurd (let z : _≡_ {A = ℕ} 0 1 = cc in omega arith)
@@ -134,6 +136,7 @@ pair-back s at {p} {next} b h =
     let all = is .1 in
     let rest : 2 + f .size ≡ next - at = omega arith in
     ap pairBytes (f .found-in)
+    ∙ ap (λ (numbers : List ℕ). framed (pair .number) (packed (pair .fields) numbers)) (numbers-pair (fieldsIn pair (drop at s)) refl)
     ∙ packed-back pair (f .size) (drop at s) (bytes-drop at s b) (sym (is .0) ∙ w .kind-in) (w .size-in) (w .enough) (omega arith)
     ∙ ap (λ (m : ℕ). take m (drop at s)) rest
 

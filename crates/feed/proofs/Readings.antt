@@ -14,8 +14,9 @@ use Rattle.feed.specs.declared.Record.the-variants.{Note}
 use Rattle.feed.specs.declared.PairReading.the-variants.{Found as FoundPair, Refused as refusedPair, End as noPair}
 use Rattle.feed.specs.declared.Reading.the-variants.{Found, Refused, End}
 use Rattle.feed.specs.Kind.{pair, kindsOf, fieldsIn}
-use Rattle.feed.specs.Record.{recordIn, pairFrom, streamKnown}
-use Rattle.feed.specs.Check.{firstOf, unless}
+use Rattle.lists.specs.Check.{_gives_, firstOr}
+use Rattle.pairing.specs.Numbers.{pairIn}
+use Rattle.feed.specs.Record.{recordIn, streamKnown}
 use Rattle.feed.specs.Reading.{headOf, foundAt, readingOf, readingFrom, reading, pairReadingFrom, pairReading}
 use Rattle.feed.proofs.Heads.{inside-elim, Row, here, there, head-none, whole-elim, whole-row}
 
@@ -52,7 +53,7 @@ module _ (s : List ℕ) (at : ℕ) where
   unfolding pairReading pairReadingFrom
   pair-refused number h = rw h
 
-  pub pair-whole : (kind size : ℕ) → headOf Output (drop at s) ≡ Whole kind size → pairReading s at ≡ FoundPair (pairFrom (fieldsIn pair (drop at s))) (at + 2 + size)
+  pub pair-whole : (kind size : ℕ) → headOf Output (drop at s) ≡ Whole kind size → pairReading s at ≡ FoundPair (pairIn (fieldsIn pair (drop at s))) (at + 2 + size)
   unfolding pairReading pairReadingFrom
   pair-whole kind size h = rw h
 
@@ -71,7 +72,7 @@ unfolding reading readingFrom foundAt
 found-elim s at {found} {next} h = go (headOf Input (drop at s)) refl h
   where
     known : (kind size : ℕ) → headOf Input (drop at s) ≡ Whole kind size → (b : Bool) → streamKnown (recordIn kind size (drop at s)) ≡ b
-        → unless (firstOf ((not b, 1) ∷ [])) (λ (number : ℕ). Refused number at) (Found (recordIn kind size (drop at s)) (at + 2 + size)) ≡ Found found next → FoundRecord s at found next
+        → firstOr (λ (number : ℕ). Refused number at) (Found (recordIn kind size (drop at s)) (at + 2 + size)) ((not b gives 1) ∷ []) ≡ Found found next → FoundRecord s at found next
     known kind size w true k e =
         let r : recordIn kind size (drop at s) ≡ found = cc in
         let n : at + 2 + size ≡ next = cc in

@@ -7,6 +7,8 @@ use mathlib.Core.Path.{_≡_, ap, _∙_}
 use lib.ListN.{length, length-append}
 use lib.Seq.{drop-append-seam}
 use Rattle.pairing.specs.declared.Pair.{Pair}
+use Rattle.pairing.specs.Numbers.{pairNumbers, pairIn}
+use Rattle.pairing.proofs.Numbers.{pair-numbers}
 use Rattle.feed.specs.declared.Feed.{Feed}
 use Rattle.feed.specs.declared.Feed.the-variants.{Input, Output}
 use Rattle.feed.specs.declared.Head.the-variants.{Whole}
@@ -16,7 +18,7 @@ use Rattle.feed.specs.declared.Reading.the-variants.{Found}
 use Rattle.feed.specs.declared.Record.{Record}
 use Rattle.feed.specs.declared.Record.the-variants.{Entry as entryRecord, Mark, Close, Note}
 use Rattle.feed.specs.Kind.{entry, mark, close, pair, lengthsOf, framed, packed}
-use Rattle.feed.specs.Record.{entryFrom, markFrom, closeFrom, entryNumbers, markNumbers, closeNumbers, pairNumbers, pairFrom, recordIn, recordBytes, pairBytes, streamKnown}
+use Rattle.feed.specs.Record.{entryFrom, markFrom, closeFrom, entryNumbers, markNumbers, closeNumbers, recordIn, recordBytes, pairBytes, streamKnown}
 use Rattle.feed.specs.Reading.{lengthIn, kindIn, outside, kindChecks, headUnless, headOf, foundAt, readingFrom, reading, pairReadingOf, pairReadingFrom, pairReading}
 use Rattle.feed.proofs.Numbers.{value-bytes}
 use Rattle.feed.proofs.Fields.{Room, unpacked-packed}
@@ -70,12 +72,13 @@ record-reads (Note size) text rest at fit known short =
     found-framed 4 text rest (Note size) at (head-framed Input 4 2 66 text rest lengths-note (omega arith) (omega arith) (omega arith) (omega arith)) (ap Note same) known
 
 pub pair-reads : (p : Pair) (rest : List ℕ) (at : ℕ) → Room (pair .fields) (pairNumbers p) → pairReadingFrom at (pairBytes p ++ rest) ≡ FoundPair p (at + length (pairBytes p))
-unfolding pairBytes pairReadingFrom
+unfolding pairBytes pairReadingFrom pairNumbers
 pair-reads p rest at fit =
     let fields = packed (pair .fields) (pairNumbers p) in
     let next : at + 2 + 34 ≡ at + 36 = omega arith in
     ap (pairReadingOf at (pairBytes p ++ rest)) (head-framed Output 257 34 34 fields rest lengths-pair (omega arith) (omega arith) (omega arith) (omega arith))
-    ∙ ap (λ (numbers : List ℕ). FoundPair (pairFrom numbers) (at + 2 + 34)) (unpacked-packed (pair .fields) (pairNumbers p) rest fit)
+    ∙ ap (λ (numbers : List ℕ). FoundPair (pairIn numbers) (at + 2 + 34)) (unpacked-packed (pair .fields) (pairNumbers p) rest fit)
+    ∙ ap (λ (q : Pair). FoundPair q (at + 2 + 34)) (pair-numbers p)
     ∙ ap (FoundPair p) next
 
 -- wherever they stand in a feed

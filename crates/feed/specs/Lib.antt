@@ -1,6 +1,5 @@
 pub mod Number
 pub mod Kind
 pub mod Record
-pub mod Check
 pub mod Reading
 pub mod Text

@@ -16,9 +16,10 @@ use Rattle.feed.specs.declared.PairReading.{PairReading}
 use Rattle.feed.specs.declared.PairReading.the-variants.{Found as FoundPair, Refused as refusedPair, End as noPair}
 use Rattle.feed.specs.declared.Record.{Record}
 use Rattle.feed.specs.Number.{value}
-use Rattle.feed.specs.Check.{firstOf, unless}
 use Rattle.feed.specs.Kind.{pair, lengthsOf, fieldsIn}
-use Rattle.feed.specs.Record.{recordIn, pairFrom, streamKnown}
+use Rattle.lists.specs.Check.{Check, _gives_, firstOr}
+use Rattle.pairing.specs.Numbers.{pairIn}
+use Rattle.feed.specs.Record.{recordIn, streamKnown}
 
 -- the length and the kind that stand at the front of some bytes
 abbrev pub lengthIn : List ℕ → ℕ
@@ -41,23 +42,23 @@ unfit Unknown n = true
 unfit (Within shortest longest) n = outside shortest longest n
 
 -- Checks: kind (11), length for the kind (10)
-unfoldable pub kindChecks : Feed → ℕ → ℕ → List (Bool × ℕ)
+unfoldable pub kindChecks : Feed → ℕ → ℕ → List Check
 kindChecks feed kind size =
-    (unknown (lengthsOf feed kind), 11)
-    ∷ (unfit (lengthsOf feed kind) size, 10)
+    (unknown (lengthsOf feed kind) gives 11)
+    ∷ (unfit (lengthsOf feed kind) size gives 10)
     ∷ []
 
 -- Checks: fewer than 2 bytes (9), length below 2 or above 66 (10), fewer bytes than the length (9), then those of the kind
-unfoldable pub headChecks : Feed → List ℕ → List (Bool × ℕ)
+unfoldable pub headChecks : Feed → List ℕ → List Check
 headChecks feed bs =
-    (ltb (length bs) 2, 9)
-    ∷ (outside 2 66 (lengthIn bs), 10)
-    ∷ (ltb (length bs) (2 + lengthIn bs), 9)
+    (ltb (length bs) 2 gives 9)
+    ∷ (outside 2 66 (lengthIn bs) gives 10)
+    ∷ (ltb (length bs) (2 + lengthIn bs) gives 9)
     ∷ kindChecks feed (kindIn bs) (lengthIn bs)
 
 -- the head of a record of a kind and a length, or the refusal of some checks
-unfoldable pub headUnless : List (Bool × ℕ) → ℕ → ℕ → Head
-headUnless checks kind size = unless (firstOf checks) refusedHead (Whole kind size)
+unfoldable pub headUnless : List Check → ℕ → ℕ → Head
+headUnless checks kind size = firstOr refusedHead (Whole kind size) checks
 
 -- what stands first in the bytes that are left: nothing where none is
 unfoldable pub headOf : Feed → List ℕ → Head
@@ -65,7 +66,7 @@ headOf feed bs = cond (eqb (length bs) 0) noHead (headUnless (headChecks feed bs
 
 -- Checks, continued: stream (1). A record at a place, with the place of the next.
 unfoldable pub foundAt : ℕ → Record → ℕ → Reading
-foundAt at found next = unless (firstOf ((not (streamKnown found), 1) ∷ [])) (λ (number : ℕ). Refused number at) (Found found next)
+foundAt at found next = firstOr (λ (number : ℕ). Refused number at) (Found found next) ((not (streamKnown found) gives 1) ∷ [])
 
 -- the answer at a place to the head of the bytes that are left there
 abbrev pub readingOf : ℕ → List ℕ → Head → Reading
@@ -82,7 +83,7 @@ reading s at = readingFrom at (drop at s)
 
 -- a reading of an output feed
 abbrev pub pairReadingOf : ℕ → List ℕ → Head → PairReading
-pairReadingOf at bs (Whole kind size) = FoundPair (pairFrom (fieldsIn pair bs)) (at + 2 + size)
+pairReadingOf at bs (Whole kind size) = FoundPair (pairIn (fieldsIn pair bs)) (at + 2 + size)
 pairReadingOf at bs (refusedHead number) = refusedPair number at
 pairReadingOf at bs noHead = noPair
 

@@ -6,6 +6,7 @@ use lib.ListN.{getD}
 use lib.Dec.{ltb, eqb}
 use Rattle.pairing.specs.declared.Entry.{Entry}
 use Rattle.pairing.specs.declared.Pair.{Pair}
+use Rattle.pairing.specs.Numbers.{pairNumbers}
 use Rattle.feed.specs.declared.Record.{Record}
 use Rattle.feed.specs.declared.Record.the-variants.{Entry as entryRecord, Mark, Close, Note}
 use Rattle.feed.specs.Kind.{entry, mark, close, note, pair, framed, packed, fieldsIn}
@@ -32,19 +33,6 @@ closeNumbers stream = stream ∷ []
 
 abbrev pub closeFrom : List ℕ → Record
 closeFrom numbers = Close (getD numbers 0 0)
-
--- start, end, A ordinal, B ordinal, A key, B key, A value, B value
-abbrev pub pairNumbers : Pair → List ℕ
-pairNumbers p =
-    p .meeting .start ∷ p .meeting .end ∷ p .a .ordinal ∷ p .b .ordinal ∷ p .a .key ∷ p .b .key ∷ p .a .value ∷ p .b .value ∷ []
-
-abbrev pub pairFrom : List ℕ → Pair
-pairFrom numbers =
-    record {
-      meeting = record { start = getD numbers 0 0; end = getD numbers 1 0 };
-      a = record { ordinal = getD numbers 2 0; key = getD numbers 4 0; value = getD numbers 6 0 };
-      b = record { ordinal = getD numbers 3 0; key = getD numbers 5 0; value = getD numbers 7 0 };
-    }
 
 -- the record of a kind and a length that stands first in some bytes
 unfoldable pub recordIn : ℕ → ℕ → List ℕ → Record

@@ -8,7 +8,8 @@ ghost use Prim.Native.Nat.{_+_, _≤_};
 ghost use lib.ListN.{length, take, drop};
 ghost use Rattle.feed.specs.Number.{value};
 ghost use Rattle.feed.specs.Kind.{entry, mark, close, pair, lengthsOf, fieldsIn};
-ghost use Rattle.feed.specs.Record.{entryFrom, markFrom, closeFrom, pairFrom, recordIn, streamKnown};
+ghost use Rattle.pairing.specs.Numbers.{pairIn};
+ghost use Rattle.feed.specs.Record.{entryFrom, markFrom, closeFrom, recordIn, streamKnown};
 ghost use Rattle.feed.specs.Text.{textAt, IsStretch};
 ghost use Rattle.feed.specs.Reading.{outside, kindChecks, headUnless, headOf, foundAt, reading, pairReading};
 
@@ -214,7 +215,7 @@ fn close_in(s: &[u8]) -> Record
 // The pair that stands first in s.
 fn pair_in(s: &[u8]) -> Pair
     requires { ⌜ 2 + pair .longest ≤ length (now s) ⌝ }
-    ensures { λ r. ⌜ r ≡ pairFrom (fieldsIn pair (now (s .entry))) ⌝ }
+    ensures { λ r. ⌜ r ≡ pairIn (fieldsIn pair (now (s .entry))) ⌝ }
 {
     let start = get32(s, 4);
     let end = get32(s, 8);

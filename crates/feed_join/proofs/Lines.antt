@@ -14,6 +14,7 @@ use Rattle.lists.proofs.FlatMap.{flatMap-append}
 use Rattle.lists.proofs.Put.{put-then}
 use Rattle.lists.proofs.Store.{stores-rows}
 use Rattle.pairing.specs.declared.Pair.{Pair}
+use Rattle.pairing.specs.Numbers.{pairNumbers, pairIn}
 use Rattle.queue.specs.declared.Queue.{Queue}
 use Rattle.queue.specs.Queue as queue
 use Rattle.journal.specs.Journal.{isClosed}
@@ -41,8 +42,8 @@ module _ (rows : Rows) (i : ℕ) (d : List ℕ) (h : i < length rows) where
 
 -- ---- the lines of waiting pairs are those of their places
 
-lines-of : (k : ℕ) (ps : List Pair) → flatMap line (take k (map queue.rowOf ps)) ≡ pairLines (take k ps)
-unfolding flatMap queue.rowOf pairLine
+lines-of : (k : ℕ) (ps : List Pair) → flatMap line (take k (map pairNumbers ps)) ≡ pairLines (take k ps)
+unfolding flatMap pairLine
 lines-of zero ps = refl
 lines-of (suc k) [] = refl
 lines-of (suc k) (p ∷ ps) = ap (λ (l : List ℕ). pairLine p ++ l) (lines-of k ps)
@@ -50,7 +51,7 @@ lines-of (suc k) (p ∷ ps) = ap (λ (l : List ℕ). pairLine p ++ l) (lines-of 
 module _ (waiting : Queue) (rows : Rows) (h : queue.Holds waiting rows) (k : ℕ) (few : k ≤ waiting .count) where
   pub waiting-lines : flatMap line (take k rows) ≡ pairLines (take k (queue.waiting waiting rows))
   waiting-lines =
-      ap (flatMap line) (sym (take-take k (waiting .count) rows few) ∙ ap (take k) (stores-rows queue.pairIn queue.rowOf queue.places 8 (waiting .count) rows h))
+      ap (flatMap line) (sym (take-take k (waiting .count) rows few) ∙ ap (take k) (stores-rows pairIn pairNumbers queue.places 8 (waiting .count) rows h))
       ∙ lines-of k (queue.waiting waiting rows)
 
 -- ---- a last line

@@ -13,6 +13,7 @@ use Rattle.lists.specs.Put.{put}
 use Rattle.lists.proofs.Keep.{keep-length}
 use Rattle.lists.proofs.Store.{content-length}
 use Rattle.pairing.specs.declared.Rule.the-variants.{Equal}
+use Rattle.pairing.specs.Numbers.{pairNumbers, pairIn}
 use Rattle.journal.specs.declared.Answer.{Answer}
 use Rattle.journal.specs.declared.Answer.the-variants.{Accepted, Refused}
 use Rattle.queue.specs.Queue as queue
@@ -38,7 +39,7 @@ kept-begun limit few = record { sound = sound-fresh Equal; few-records = omega a
 -- no more are ready than wait
 pub ready-count : (s : State) → queue.Holds (s .join .queue) (s .rows) → (length (readyOf s) ≤ s .join .queue .count) × (s .join .queue .count ≤ queue.places)
 ready-count s h =
-    let waits : length (waitingIn s) ≡ s .join .queue .count = content-length queue.pairIn queue.rowOf queue.places 8 (s .join .queue .count) (s .rows) h in
+    let waits : length (waitingIn s) ≡ s .join .queue .count = content-length pairIn pairNumbers queue.places 8 (s .join .queue .count) (s .rows) h in
     (omega (arith, keep-length (readyIn s) (waitingIn s)), h .few)
 
 -- a drop of as many as are ready, and counts that have them and one record more

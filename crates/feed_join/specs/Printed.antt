@@ -5,6 +5,7 @@ use mathlib.Core.List.{List, [], _∷_, _++_, flatMap}
 use lib.ListN.{length, take, drop}
 use Rattle.pairing.specs.declared.Pair.{Pair}
 use Rattle.pairing.specs.declared.Rule.the-variants.{Equal}
+use Rattle.pairing.specs.Numbers.{pairNumbers}
 use Rattle.journal.specs.declared.Answer.{Answer}
 use Rattle.journal.specs.declared.Answer.the-variants.{Accepted, Refused}
 use Rattle.join.specs.State.{State, freshState}
@@ -13,7 +14,6 @@ use Rattle.feed.specs.declared.Reading.{Reading}
 use Rattle.feed.specs.declared.Reading.the-variants.{Found, Refused as refusedReading, End}
 use Rattle.feed.specs.declared.Record.{Record}
 use Rattle.feed.specs.declared.Record.the-variants.{Entry, Mark, Close, Note}
-use Rattle.feed.specs.Record.{pairNumbers}
 use Rattle.feed.specs.Reading.{reading}
 use Rattle.lines.specs.Line.{line}
 

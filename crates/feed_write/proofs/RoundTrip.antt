@@ -8,16 +8,17 @@ use mathlib.Core.Path.{_≡_, refl, sym, ap, _∙_}
 use lib.Dec.{ltb}
 use lib.ListN.{length, drop, take}
 use borrow.Author.Tests.{ltb-false}
+use Rattle.lists.specs.Check.{_gives_, firstOr}
 use Rattle.lists.specs.Put.{put}
 use Rattle.pairing.specs.declared.Pair.{Pair}
+use Rattle.pairing.specs.Numbers.{pairNumbers}
 use Rattle.feed.specs.declared.PairReading.the-variants.{Found as FoundPair}
 use Rattle.feed.specs.declared.Reading.the-variants.{Found}
 use Rattle.feed.specs.declared.Record.{Record}
 use Rattle.feed_write.specs.declared.Writing.{Writing}
 use Rattle.feed_write.specs.declared.Writing.the-variants.{Written, Refused}
 use Rattle.feed.specs.Kind.{pair}
-use Rattle.feed.specs.Record.{pairNumbers, recordBytes, pairBytes, streamKnown}
-use Rattle.feed.specs.Check.{firstOf, unless}
+use Rattle.feed.specs.Record.{recordBytes, pairBytes, streamKnown}
 use Rattle.feed.specs.Reading.{reading, pairReading}
 use Rattle.feed_write.specs.Writing.{writing, recordWriting, pairWriting}
 use Rattle.lists.proofs.Put.{put-first}
@@ -37,7 +38,7 @@ unfolding recordWriting writing
 written-reads r text buf {size} {left} fit h = go (streamKnown r) (ltb 64 (length text)) (ltb (length buf) (length (recordBytes r text))) refl refl h
   where
     go : (known long short : Bool) → streamKnown r ≡ known → ltb 64 (length text) ≡ long
-        → _≡_ {A = Writing × List ℕ} (unless (firstOf ((not known, 1) ∷ (long, 10) ∷ (short, 12) ∷ [])) (λ (number : ℕ). (Refused number, buf)) (Written (length (recordBytes r text)), recordBytes r text ++ drop (length (recordBytes r text)) buf)) (Written size, left)
+        → _≡_ {A = Writing × List ℕ} (firstOr (λ (number : ℕ). (Refused number, buf)) (Written (length (recordBytes r text)), recordBytes r text ++ drop (length (recordBytes r text)) buf) ((not known gives 1) ∷ (long gives 10) ∷ (short gives 12) ∷ [])) (Written size, left)
         → reading left 0 ≡ Found r size
     go false long short k l e = absurd (not-written e)
     go true true short k l e = absurd (not-written e)
@@ -53,7 +54,7 @@ pub pair-written-reads : (p : Pair) (buf : List ℕ) {size : ℕ} {left : List �
 unfolding pairWriting writing
 pair-written-reads p buf {size} {left} fit h = go (ltb (length buf) (length (pairBytes p))) h
   where
-    go : (short : Bool) → _≡_ {A = Writing × List ℕ} (unless (firstOf ((short, 12) ∷ [])) (λ (number : ℕ). (Refused number, buf)) (Written (length (pairBytes p)), pairBytes p ++ drop (length (pairBytes p)) buf)) (Written size, left)
+    go : (short : Bool) → _≡_ {A = Writing × List ℕ} (firstOr (λ (number : ℕ). (Refused number, buf)) (Written (length (pairBytes p)), pairBytes p ++ drop (length (pairBytes p)) buf) ((short gives 12) ∷ [])) (Written size, left)
         → pairReading left 0 ≡ FoundPair p size
     go true e = absurd (not-written e)
     go false e =

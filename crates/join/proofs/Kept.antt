@@ -8,6 +8,7 @@ use lib.Dec.{leb}
 use lib.ListN.{length, drop}
 use borrow.Author.Tests.{leb-true, leb-false, ltb-false, le-leb, not-false}
 use Rattle.interval.specs.Interval.{properOf}
+use Rattle.lists.specs.Check.{Check}
 use Rattle.lists.proofs.All.{All, all-map}
 use Rattle.lists.proofs.Bools.{and-left, and-right}
 use Rattle.pairing.specs.declared.Entry.{Entry}
@@ -18,7 +19,7 @@ use Rattle.pairing.specs.declared.Side.the-variants.{A, B}
 use Rattle.journal.specs.declared.Answer.the-variants as answer
 use Rattle.journal.specs.declared.Gate.{Gate}
 use Rattle.journal.specs.declared.Gate.the-variants.{Open, Closed}
-use Rattle.journal.specs.Answer.{Row, firstOf}
+use Rattle.journal.specs.Answer.{firstOf}
 use Rattle.journal.specs.Journal.{freshJournal, markRows}
 use Rattle.journal.proofs.Onward.{Onward, onward-closed, onward-open}
 use Rattle.journal.proofs.Rows.{accepted-rows, unless-refused}
@@ -126,7 +127,7 @@ module _ (side : Side) (v : View) (h : SoundView side v) where
     waiting = h .waiting;
   }
 
-  pub sound-entry : (e : Entry) → All (λ (row : Row). row .when ≡ false) (entryRows side v e) → SoundView side (afterEntry side v e)
+  pub sound-entry : (e : Entry) → All (λ (row : Check). row .when ≡ false) (entryRows side v e) → SoundView side (afterEntry side v e)
   unfolding entryRows afterEntry
   sound-entry e rows =
       let start = e .span .start in
@@ -147,13 +148,13 @@ module _ (side : Side) (v : View) (h : SoundView side v) where
 
 module _ (s : State) (h : Sound s) where
   -- a call that rows of the table may refuse, if what it would leave is sound
-  called-kept : (rows : List Row) (next : State) → (All (λ (row : Row). row .when ≡ false) rows → Sound next) → Sound (called s rows next .state)
+  called-kept : (rows : List Check) (next : State) → (All (λ (row : Check). row .when ≡ false) rows → Sound next) → Sound (called s rows next .state)
   called-kept rows next f = unless-refused Sound (firstOf rows) next s (λ e. f (accepted-rows rows e)) h
 
-  entered : (side : Side) (e : Entry) → All (λ (row : Row). row .when ≡ false) (entryRows side (view side s) e) → Sound (stateOf side (afterEntry side (view side s) e))
+  entered : (side : Side) (e : Entry) → All (λ (row : Check). row .when ≡ false) (entryRows side (view side s) e) → Sound (stateOf side (afterEntry side (view side s) e))
   entered side e rows = sound-stateOf side (afterEntry side (view side s) e) (sound-entry side (view side s) (sound-view side s h) e rows)
 
-  marked : (side : Side) (time : ℕ) → All (λ (row : Row). row .when ≡ false) (markRows time (view side s .own)) → Sound (stateOf side (afterMove (Open time) (view side s)))
+  marked : (side : Side) (time : ℕ) → All (λ (row : Check). row .when ≡ false) (markRows time (view side s .own)) → Sound (stateOf side (afterMove (Open time) (view side s)))
   marked side time rows =
       let v = view side s in
       sound-stateOf side (afterMove (Open time) v) (sound-move side v (sound-view side s h) (Open time) (onward-open (v .own .gate) time (rows .0) (rows .1 .0)))
@@ -232,7 +233,7 @@ module _ (s : State) (h : Sound s) where
 -- ---- a refused call leaves the state exactly as it came, sound or not
 
 module _ (s : State) where
-  called-refused : (rows : List Row) (next : State) (number : ℕ) → called s rows next .answer ≡ answer.Refused number → called s rows next .state ≡ s
+  called-refused : (rows : List Check) (next : State) (number : ℕ) → called s rows next .answer ≡ answer.Refused number → called s rows next .state ≡ s
   called-refused rows next number e = rw e
 
   pub entry-refused : (stream : ℕ) (e : Entry) (number : ℕ) → entryCall s stream e .answer ≡ answer.Refused number → entryCall s stream e .state ≡ s

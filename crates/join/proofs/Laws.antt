@@ -12,6 +12,7 @@ use Rattle.interval.specs.Interval.{properOf}
 use Rattle.lists.specs.Judge.{chain}
 use Rattle.lists.specs.Sort.{insertAllBy}
 use Rattle.lists.specs.Store.{Rows}
+use Rattle.lists.specs.Check.{Check, _gives_}
 use Rattle.lists.proofs.All.{each-map}
 use Rattle.lists.proofs.Bools.{and-left, and-right}
 use Rattle.lists.proofs.Judge.{chain-each, each-chain}
@@ -24,6 +25,7 @@ use Rattle.pairing.specs.declared.Rule.{Rule}
 use Rattle.pairing.specs.declared.Side.{Side}
 use Rattle.pairing.specs.declared.Side.the-variants.{A, B}
 use Rattle.pairing.specs.Pair.{pairs, comesBefore}
+use Rattle.pairing.specs.Numbers.{pairNumbers, pairIn}
 use Rattle.pairing.specs.Side.{pairFrom, newPairs}
 use Rattle.pairing.proofs.Arrival.{Later, newPairs-map, newPairs-ascending}
 use Rattle.journal.specs.declared.Answer.{Answer}
@@ -31,7 +33,7 @@ use Rattle.journal.specs.declared.Answer.the-variants.{Accepted, Refused}
 use Rattle.journal.specs.declared.Gate.{Gate}
 use Rattle.journal.specs.declared.Gate.the-variants.{Open}
 use Rattle.journal.specs.declared.Journal.{Journal}
-use Rattle.journal.specs.Answer.{Row, _gives_, firstOf, unlessRefused}
+use Rattle.journal.specs.Answer.{firstOf, unlessRefused}
 use Rattle.journal.specs.Journal.{wanted, isClosed, isBehind, moved, entered}
 use Rattle.area.specs.declared.Area.{Area}
 use Rattle.area.specs.Area as area
@@ -65,7 +67,7 @@ formed-ascending rule side x others e =
 -- ---- rows of the table
 
 -- where nothing before applies, the rest decides
-pub firstOf-append : (rows more : List Row) → firstOf (rows ++ more) ≡ unlessRefused (firstOf rows) (firstOf more) (firstOf rows)
+pub firstOf-append : (rows more : List Check) → firstOf (rows ++ more) ≡ unlessRefused (firstOf rows) (firstOf more) (firstOf rows)
 firstOf-append [] more = refl
 firstOf-append (row ∷ rows) more = go (row .when) (firstOf-append rows more)
   where
@@ -84,7 +86,7 @@ accepted-not false number rest e = (refl, e)
 -- ---- an entry of one side
 
 -- the rows before the pairs are counted
-abbrev pub firstRows : Journal → Gate → ℕ → Entry → List Row
+abbrev pub firstRows : Journal → Gate → ℕ → Entry → List Check
 firstRows own other count e =
     (isClosed (own .gate) gives 2)
     ∷ (not (properOf (e .span)) gives 3)
@@ -118,7 +120,7 @@ module _ (rule : Rule) (side : Side) (own other : Half) (waiting : Queue) (mine 
   others-length = content-length area.heldIn area.rowOf area.places 5 (other .area .count) others (stand .holds-others)
 
   waiting-length : length (v .waiting) ≡ waiting .count
-  waiting-length = content-length queue.pairIn queue.rowOf queue.places 8 (waiting .count) rows (stand .holds-rows)
+  waiting-length = content-length pairIn pairNumbers queue.places 8 (waiting .count) rows (stand .holds-rows)
 
   -- what is refused stands as it stood
   pub leaves-all : Leaves v own other waiting mine others rows
@@ -234,7 +236,7 @@ module _ (rule : Rule) (v : View) (same : v .rule ≡ rule) (own other : Half) (
   }
 
 -- an answer, and the state that a side sees after it, are those of the call
-pub called-seen : (side : Side) (s : State) → Sound s → (rows : List Row) (after : View) (answer : Answer) → answer ≡ firstOf rows
+pub called-seen : (side : Side) (s : State) → Sound s → (rows : List Check) (after : View) (answer : Answer) → answer ≡ firstOf rows
     → outcome answer (stateOf side (unlessRefused answer after (view side s))) ≡ called s rows (stateOf side after)
 called-seen side s ok rows after answer e = ap (λ (a : Answer). outcome a (stateOf side (unlessRefused a after (view side s)))) e ∙ ap (outcome (firstOf rows)) (go (firstOf rows))
   where
@@ -309,14 +311,14 @@ view-own B s = refl
 
 -- ---- what rows answer
 
-module _ (s : State) (rows : List Row) (next : State) (answer : Answer) (e : answer ≡ firstOf rows) where
+module _ (s : State) (rows : List Check) (next : State) (answer : Answer) (e : answer ≡ firstOf rows) where
   pub called-refused : (number : ℕ) → answer ≡ Refused number → outcome answer s ≡ called s rows next
   called-refused number f = rw (← e, f)
 
   pub called-accepted : (after : State) → answer ≡ Accepted → after ≡ next → outcome answer after ≡ called s rows next
   called-accepted after f g = rw (← e, f, g)
 
-module _ (s : State) (stream : ℕ) (rows : List Row) (next : State) where
+module _ (s : State) (stream : ℕ) (rows : List Check) (next : State) where
   pub judged-unsound : sound s ≡ false → outcome (Refused 8) s ≡ called s (judgeRows s stream ++ rows) next
   judged-unsound e = rw e
 
@@ -332,8 +334,8 @@ module _ (s : State) (h : queue.Holds (s .join .queue) (s .rows)) where
   pub none-waits : s .join .queue .count ≡ 0 → waitingIn s ≡ []
   none-waits e = rw e
 
-  pub one-waits : 0 < s .join .queue .count → waitingIn s ≡ getD (waitingIn s) 0 (queue.pairIn []) ∷ drop 1 (waitingIn s)
-  one-waits few = drop-cons (waitingIn s) 0 (queue.pairIn []) (omega (arith, content-length queue.pairIn queue.rowOf queue.places 8 (s .join .queue .count) (s .rows) h))
+  pub one-waits : 0 < s .join .queue .count → waitingIn s ≡ getD (waitingIn s) 0 (pairIn []) ∷ drop 1 (waitingIn s)
+  one-waits few = drop-cons (waitingIn s) 0 (pairIn []) (omega (arith, content-length pairIn pairNumbers queue.places 8 (s .join .queue .count) (s .rows) h))
 
 pub take-none : (s : State) (closed : Bool) → closed ≡ bothClosed s → waitingIn s ≡ [] → outcome (cond closed Finished Waiting) s ≡ takeOn s
 take-none s closed e f = rw (f, ← e) (go closed)
@@ -350,7 +352,7 @@ module _ (s : State) (p : Pair) (ps : List Pair) (e : waitingIn s ≡ p ∷ ps) 
   take-hands f = rw (e, f)
 
 -- the first waiting pair, which is ready, and the state without it
-pub take-first : (s : State) → queue.Holds (s .join .queue) (s .rows) → 0 < s .join .queue .count → (p : Pair) (left : State) → p ≡ getD (waitingIn s) 0 (queue.pairIn []) → left ≡ without 1 s → readyIn s p ≡ true
+pub take-first : (s : State) → queue.Holds (s .join .queue) (s .rows) → 0 < s .join .queue .count → (p : Pair) (left : State) → p ≡ getD (waitingIn s) 0 (pairIn []) → left ≡ without 1 s → readyIn s p ≡ true
     → outcome (Handed p) left ≡ takeOn s
 take-first s h few p left e f g =
-    (λ i. outcome (Handed (e i)) (f i)) ∙ take-hands s (getD (waitingIn s) 0 (queue.pairIn [])) (drop 1 (waitingIn s)) (one-waits s h few) (ap (readyIn s) (sym e) ∙ g)
+    (λ i. outcome (Handed (e i)) (f i)) ∙ take-hands s (getD (waitingIn s) 0 (pairIn [])) (drop 1 (waitingIn s)) (one-waits s h few) (ap (readyIn s) (sym e) ∙ g)

@@ -7,6 +7,7 @@ use mathlib.Core.Path.{_≡_, refl, sym, ap, _∙_}
 use lib.ListN.{length, take, drop}
 use lib.Seq.{drop-drop}
 use Rattle.lists.specs.Keep.{keep}
+use Rattle.lists.specs.Check.{Check}
 use Rattle.lists.proofs.All.{All, all-any}
 use Rattle.lists.proofs.Keep.{keep-length}
 use Rattle.lists.proofs.Order.{Ascending}
@@ -20,7 +21,7 @@ use Rattle.pairing.specs.Pair.{comesBefore}
 use Rattle.pairing.proofs.Arrival.{pairFrom-start, all-newPairs}
 use Rattle.journal.specs.declared.Gate.{Gate}
 use Rattle.journal.specs.declared.Gate.the-variants.{Open, Closed}
-use Rattle.journal.specs.Answer.{Row, firstOf}
+use Rattle.journal.specs.Answer.{firstOf}
 use Rattle.journal.specs.Journal.{markRows}
 use Rattle.journal.proofs.Onward.{Onward, onward-same, onward-closed, onward-open}
 use Rattle.journal.proofs.Rows.{accepted-rows, unless-refused}
@@ -83,7 +84,7 @@ module _ (s : State) (h : Sound s) (side : Side) where
   grows-move gate on = grows-seen (afterMove gate seen) on refl refl (sound-move side seen (sound-view side s h) gate on .waiting .ascends)
 
   -- its own pairs start no earlier than an entry, so that none of them is ready yet
-  grows-entry : (e : Entry) → All (λ (row : Row). row .when ≡ false) (entryRows side seen e) → Grows s (stateOf side (afterEntry side seen e))
+  grows-entry : (e : Entry) → All (λ (row : Check). row .when ≡ false) (entryRows side seen e) → Grows s (stateOf side (afterEntry side seen e))
   unfolding entryRows afterEntry
   grows-entry e rows =
       let start = e .span .start in
@@ -94,7 +95,7 @@ module _ (s : State) (h : Sound s) (side : Side) where
       grows-seen (afterEntry side seen e) on refl (keep-insertAllBy comesBefore due (formed side seen e) (seen .waiting) late) (sound-entry side seen (sound-view side s h) e rows .waiting .ascends)
 
 module _ (s : State) (h : Sound s) where
-  called-grows : (rows : List Row) (next : State) → (All (λ (row : Row). row .when ≡ false) rows → Grows s next) → Grows s (called s rows next .state)
+  called-grows : (rows : List Check) (next : State) → (All (λ (row : Check). row .when ≡ false) rows → Grows s next) → Grows s (called s rows next .state)
   called-grows rows next f = unless-refused (Grows s) (firstOf rows) next s (λ e. f (accepted-rows rows e)) (grows-same s)
 
   pub entry-grows : (stream : ℕ) (e : Entry) → Grows s (entryCall s stream e .state)

@@ -7,6 +7,7 @@ use lib.ListN.{length, drop}
 use Rattle.interval.specs.Interval.{properOf}
 use Rattle.lists.specs.Keep.{keep}
 use Rattle.lists.specs.Sort.{insertAllBy}
+use Rattle.lists.specs.Check.{Check, _gives_}
 use Rattle.pairing.specs.declared.Entry.{Entry}
 use Rattle.pairing.specs.declared.Numbered.{Numbered}
 use Rattle.pairing.specs.declared.Pair.{Pair}
@@ -17,7 +18,7 @@ use Rattle.pairing.specs.Side.{newPairs}
 use Rattle.journal.specs.declared.Answer.{Answer}
 use Rattle.journal.specs.declared.Gate.{Gate}
 use Rattle.journal.specs.declared.Gate.the-variants.{Open, Closed}
-use Rattle.journal.specs.Answer.{Row, _gives_, firstOf, unlessRefused}
+use Rattle.journal.specs.Answer.{firstOf, unlessRefused}
 use Rattle.journal.specs.Journal.{wanted, isClosed, isBehind, moved, entered, markRows}
 use Rattle.area.specs.Area as area
 use Rattle.queue.specs.Queue as queue
@@ -34,7 +35,7 @@ abbrev pub outcome : {Answered : Type 0} → Answered → State → Outcome Answ
 outcome answer state = record { answer = answer; state = state }
 
 -- a call that rows of the table may refuse: the first that applies is the answer, and a refusal leaves the state exactly as it came
-abbrev pub called : State → List Row → State → Outcome Answer
+abbrev pub called : State → List Check → State → Outcome Answer
 called s rows next = outcome (firstOf rows) (unlessRefused (firstOf rows) next s)
 
 -- Journal A is stream 0, B is stream 1.
@@ -42,7 +43,7 @@ abbrev pub sideOf : ℕ → Side
 sideOf stream = cond (eqb stream 0) A B
 
 -- 8: the state given is not sound. 1: stream is neither 0 nor 1.
-abbrev pub judgeRows : State → ℕ → List Row
+abbrev pub judgeRows : State → ℕ → List Check
 judgeRows s stream = (not (sound s) gives 8) ∷ (ltb 1 stream gives 1) ∷ []
 
 -- ---- an entry
@@ -57,7 +58,7 @@ formed side v e = newPairs (v .rule) side (arrival v e) (v .others)
 
 -- 2: that journal is closed. 3: start not below end. 4: start below the journal's clock. 5: 1,000,000 entries already accepted.
 -- 6: the entry is wanted and its area already holds 64. 7: waiting pairs plus new pairs exceed 256.
-unfoldable pub entryRows : Side → View → Entry → List Row
+unfoldable pub entryRows : Side → View → Entry → List Check
 entryRows side v e =
     (isClosed (v .own .gate) gives 2)
     ∷ (not (properOf (e .span)) gives 3)
@@ -107,7 +108,7 @@ markCall s stream time =
     let side = sideOf stream in
     called s (judgeRows s stream ++ markRows time (view side s .own)) (stateOf side (afterMove (Open time) (view side s)))
 
-abbrev pub closeRows : View → List Row
+abbrev pub closeRows : View → List Check
 closeRows v = (isClosed (v .own .gate) gives 2) ∷ []
 
 abbrev pub closeOn : State → Side → Outcome Answer

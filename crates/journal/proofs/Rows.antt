@@ -5,14 +5,15 @@ use mathlib.Core.Bool.{Bool, true, false, cond}
 use mathlib.Core.List.{List, [], _∷_}
 use mathlib.Core.Path.{_≡_, refl}
 use Rattle.lists.specs.Judge.{allOf}
+use Rattle.lists.specs.Check.{Check}
 use Rattle.lists.proofs.All.{All}
 use Rattle.lists.proofs.Bools.{and-left, and-right}
 use Rattle.journal.specs.declared.Answer.{Answer}
 use Rattle.journal.specs.declared.Answer.the-variants.{Accepted, Refused}
-use Rattle.journal.specs.Answer.{numberOf, Row, firstOf, unlessRefused}
+use Rattle.journal.specs.Answer.{numberOf, firstOf, unlessRefused}
 
 -- where a call is accepted, no row applies
-pub accepted-rows : (rows : List Row) → firstOf rows ≡ Accepted → All (λ (row : Row). row .when ≡ false) rows
+pub accepted-rows : (rows : List Check) → firstOf rows ≡ Accepted → All (λ (row : Check). row .when ≡ false) rows
 accepted-rows [] e = tt
 accepted-rows (row ∷ rows) e = go (row .when) refl e (accepted-rows rows)
   where
@@ -20,17 +21,17 @@ accepted-rows (row ∷ rows) e = go (row .when) refl e (accepted-rows rows)
     never n f = let z : _≡_ {A = ℕ} 0 1 = cc in omega arith
 
     go : (b : Bool) → row .when ≡ b → cond b (Refused (row .number)) (firstOf rows) ≡ Accepted
-        → (firstOf rows ≡ Accepted → All (λ (r : Row). r .when ≡ false) rows) → (row .when ≡ false) × All (λ (r : Row). r .when ≡ false) rows
+        → (firstOf rows ≡ Accepted → All (λ (r : Check). r .when ≡ false) rows) → (row .when ≡ false) × All (λ (r : Check). r .when ≡ false) rows
     go true w f rest = absurd (never (row .number) f)
     go false w f rest = (w, rest f)
 
 -- where no row applies, a call is accepted
-pub rows-accepted : (rows : List Row) → All (λ (row : Row). row .when ≡ false) rows → firstOf rows ≡ Accepted
+pub rows-accepted : (rows : List Check) → All (λ (row : Check). row .when ≡ false) rows → firstOf rows ≡ Accepted
 rows-accepted [] h = refl
 rows-accepted (row ∷ rows) h = rw (h .0) (rows-accepted rows (h .1))
 
 -- a test that passes 0 and the number of every row passes the answer's number
-pub number-rows : (p : ℕ → Bool) (rows : List Row) → p 0 ≡ true → allOf (λ (row : Row). p (row .number)) rows ≡ true → p (numberOf (firstOf rows)) ≡ true
+pub number-rows : (p : ℕ → Bool) (rows : List Check) → p 0 ≡ true → allOf (λ (row : Check). p (row .number)) rows ≡ true → p (numberOf (firstOf rows)) ≡ true
 number-rows p [] none e = none
 number-rows p (row ∷ rows) none e = go (row .when) (number-rows p rows none (and-right (p (row .number)) _ e))
   where

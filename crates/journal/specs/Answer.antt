@@ -1,7 +1,7 @@
 -- What a call answers: Accepted, or a refusal with the number that the table gives.
 use Prim.Native.Nat.{ℕ}
-use mathlib.Core.Bool.{Bool, cond}
-use mathlib.Core.List.{List, [], _∷_}
+use mathlib.Core.List.{List}
+use Rattle.lists.specs.Check.{Check, firstOr}
 use Rattle.journal.specs.declared.Answer.{Answer}
 use Rattle.journal.specs.declared.Answer.the-variants.{Accepted, Refused}
 
@@ -10,19 +10,9 @@ abbrev pub numberOf : Answer → ℕ
 numberOf Accepted = 0
 numberOf (Refused number) = number
 
--- a row of the table: when it applies, and its number
-pub record Row : Type 0 where
-  pub when : Bool
-  pub number : ℕ
-
-infix 5 _gives_
-abbrev pub _gives_ : Bool → ℕ → Row
-when gives number = record { when = when; number = number }
-
 -- The first that applies in the table's order is given. No refusal is given otherwise.
-abbrev pub firstOf : List Row → Answer
-firstOf [] = Accepted
-firstOf (row ∷ rows) = cond (row .when) (Refused (row .number)) (firstOf rows)
+abbrev pub firstOf : List Check → Answer
+firstOf rows = firstOr Refused Accepted rows
 
 -- what an accepted call leaves, and what a refused one does: all as it stood
 abbrev pub unlessRefused : {A : Type 0} → Answer → A → A → A

@@ -3,12 +3,13 @@ use Prim.Native.Nat.{ℕ, _+_}
 use mathlib.Core.Bool.{Bool, true, false, _&&_}
 use mathlib.Core.List.{List, [], _∷_}
 use lib.Dec.{ltb, leb}
+use Rattle.lists.specs.Check.{Check, _gives_}
 use Rattle.pairing.specs.declared.Entry.{Entry}
 use Rattle.journal.specs.declared.Gate.{Gate}
 use Rattle.journal.specs.declared.Gate.the-variants.{Open, Closed}
 use Rattle.journal.specs.declared.Journal.{Journal}
 use Rattle.journal.specs.declared.Marked.{Marked}
-use Rattle.journal.specs.Answer.{Row, _gives_, firstOf, unlessRefused}
+use Rattle.journal.specs.Answer.{firstOf, unlessRefused}
 
 -- An entry is wanted while the other journal is open and the entry's end is above the other journal's clock.
 abbrev pub wanted : Gate → Entry → Bool
@@ -52,7 +53,7 @@ abbrev pub entered : Entry → Journal → Journal
 entered e j = record { gate = Open (e .span .start); accepted = j .accepted + 1 }
 
 -- a mark on a journal alone follows 2, then 4
-abbrev pub markRows : ℕ → Journal → List Row
+abbrev pub markRows : ℕ → Journal → List Check
 markRows time j = (isClosed (j .gate) gives 2) ∷ (isBehind (j .gate) time gives 4) ∷ []
 
 abbrev pub marked : ℕ → Journal → Marked

@@ -1,4 +1,5 @@
 pub mod Pairs
+pub mod Numbers
 pub mod Plain
 pub mod Arrival
 pub mod Unique

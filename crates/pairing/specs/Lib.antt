@@ -1,4 +1,5 @@
 pub mod Rule
 pub mod Pair
+pub mod Numbers
 pub mod Plain
 pub mod Side

@@ -22,7 +22,7 @@ use Rattle.lists.proofs.Judge.{allOf-all, allOf-map, chain-map, chain-each}
 use Rattle.lists.proofs.Keep.{keep-map}
 use Rattle.lists.proofs.Order.{StrictOrder, Ascending}
 use Rattle.lists.proofs.Sort.{insertAllBy-length}
-use Rattle.lists.proofs.Store.{stores-length, stores-rows, stores-rest, content-length, row-listed, stores-judged}
+use Rattle.lists.proofs.Store.{stores-length, stores-rows, stores-rest, content-length, stores-judged}
 use Rattle.pairing.specs.declared.Pair.{Pair}
 use Rattle.pairing.specs.declared.Partner.{Partner}
 use Rattle.pairing.specs.declared.Numbered.{Numbered}
@@ -30,25 +30,17 @@ use Rattle.pairing.specs.declared.Rule.{Rule}
 use Rattle.pairing.specs.declared.Side.{Side}
 use Rattle.pairing.specs.Pair.{pairs, comesBefore}
 use Rattle.pairing.specs.Side.{pairFrom, newPairs}
+use Rattle.pairing.specs.Numbers.{pairIn, pairNumbers}
 use Rattle.pairing.proofs.Arrival.{pairing, newPairs-map}
 use Rattle.pairing.proofs.Pairs.{strict-comesBefore, before-start}
+use Rattle.pairing.proofs.Numbers.{pair-numbers, numbers-pair}
 use Rattle.area.specs.Area.{heldIn}
 use Rattle.journal.specs.declared.Gate.{Gate}
 use Rattle.journal.proofs.Due.{due-down}
 use Rattle.queue.specs.declared.Queue.{Queue}
-use Rattle.queue.specs.Queue.{pairIn, rowOf, places, waiting, queueOf, rowsOf, Holds, ready, soundPair, isZero, isBlank, soundQueue}
+use Rattle.queue.specs.Queue.{places, waiting, queueOf, rowsOf, Holds, ready, soundPair, isZero, isBlank, soundQueue}
 
 -- ---- rows
-
--- what is written is read back
-pub pair-row : (p : Pair) → pairIn (rowOf p) ≡ p
-unfolding pairIn rowOf
-pair-row p = refl
-
--- a row of eight numbers is the row of the pair that it holds
-pub row-pair : (row : List ℕ) → length row ≡ 8 → rowOf (pairIn row) ≡ row
-unfolding pairIn rowOf
-row-pair row e = row-listed 8 row e
 
 zero-partner : (x : Partner) → isZero x ≡ true → x ≡ record { ordinal = 0; key = 0; value = 0 }
 zero-partner x e =
@@ -59,7 +51,7 @@ zero-partner x e =
     λ i. record { ordinal = a i; key = b i; value = c i }
 
 blank-row : (row : List ℕ) → length row ≡ 8 → isBlank (pairIn row) ≡ true → row ≡ replicate 8 0
-unfolding rowOf
+unfolding pairNumbers
 blank-row row long e =
     let p = pairIn row in
     let e1 = and-right (eqb (p .meeting .start) 0) _ e in
@@ -68,7 +60,7 @@ blank-row row long e =
     let end = eqb-true (p .meeting .end) 0 (and-left _ _ e1) in
     let a = zero-partner (p .a) (and-left _ _ e2) in
     let b = zero-partner (p .b) (and-right (isZero (p .a)) _ e2) in
-    sym (row-pair row long) ∙ (λ i. rowOf (record { meeting = record { start = start i; end = end i }; a = a i; b = b i }))
+    sym (numbers-pair row long) ∙ (λ i. pairNumbers (record { meeting = record { start = start i; end = end i }; a = a i; b = b i }))
 
 -- the order of rows is that of the pairs in them
 abbrev pub rowBefore : List ℕ → List ℕ → Bool
@@ -88,24 +80,24 @@ meets rule x row = pairs rule (x .entry) (heldIn row .entry)
 
 -- the row of their pair
 abbrev pub newRow : Side → Numbered → List ℕ → List ℕ
-newRow side x row = rowOf (pairFrom side x (heldIn row))
+newRow side x row = pairNumbers (pairFrom side x (heldIn row))
 
 map-map : {A B C : Type 0} (g : B → C) (f : A → B) (xs : List A) → map g (map f xs) ≡ map (λ (x : A). g (f x)) xs
 map-map g f [] = refl
 map-map {A} {B} {C} g f (x ∷ xs) = ap {B = List C} (λ l. g (f x) ∷ l) (map-map g f xs)
 
-pub new-rows : (rule : Rule) (side : Side) (x : Numbered) (rows : Rows) → map (newRow side x) (keep (meets rule x) rows) ≡ map rowOf (newPairs rule side x (map heldIn rows))
+pub new-rows : (rule : Rule) (side : Side) (x : Numbered) (rows : Rows) → map (newRow side x) (keep (meets rule x) rows) ≡ map pairNumbers (newPairs rule side x (map heldIn rows))
 new-rows rule side x rows =
-    sym (ap (map rowOf)
+    sym (ap (map pairNumbers)
     (newPairs-map rule side x (map heldIn rows)
     ∙ ap (map (pairFrom side x)) (keep-map (pairing rule x) heldIn rows)
     ∙ map-map (pairFrom side x) heldIn (keep (meets rule x) rows))
-    ∙ map-map rowOf (λ (row : List ℕ). pairFrom side x (heldIn row)) (keep (meets rule x) rows))
+    ∙ map-map pairNumbers (λ (row : List ℕ). pairFrom side x (heldIn row)) (keep (meets rule x) rows))
 
 pub new-ascending : (rule : Rule) (side : Side) (x : Numbered) (rows : Rows) → chain comesBefore (newPairs rule side x (map heldIn rows)) ≡ true → Ascending rowBefore (map (newRow side x) (keep (meets rule x) rows))
 new-ascending rule side x rows sorted =
     rw (new-rows rule side x rows)
-    (each-mapped rowOf (λ (p q : Pair). comesBefore p q ≡ true) (λ (a b : List ℕ). rowBefore a b ≡ true) (λ p q e. ap (λ (y : Pair). comesBefore y (pairIn (rowOf q))) (pair-row p) ∙ ap (comesBefore p) (pair-row q) ∙ e)
+    (each-mapped pairNumbers (λ (p q : Pair). comesBefore p q ≡ true) (λ (a b : List ℕ). rowBefore a b ≡ true) (λ p q e. ap (λ (y : Pair). comesBefore y (pairIn (pairNumbers q))) (pair-numbers p) ∙ ap (comesBefore p) (pair-numbers q) ∙ e)
     (newPairs rule side x (map heldIn rows)) (chain-each comesBefore (strict-comesBefore .trans) (newPairs rule side x (map heldIn rows)) sorted))
 
 -- ---- the judge
@@ -125,7 +117,7 @@ unfolding soundQueue
 sound-holds ofA ofB queue rows shaped e =
     let rest = and-right (leb (queue .count) places) _ e in
     let spare = and-right (chain comesBefore (waiting queue rows)) _ (and-right (allOf (soundPair ofA ofB) (waiting queue rows)) _ rest) in
-    stores-judged pairIn rowOf places 8 isBlank row-pair blank-row (queue .count) rows shaped (leb-true (queue .count) places (and-left _ _ e)) spare
+    stores-judged pairIn pairNumbers places 8 isBlank numbers-pair blank-row (queue .count) rows shaped (leb-true (queue .count) places (and-left _ _ e)) spare
 
 -- which are in order
 pub sound-in-order : (ofA ofB : ℕ) (queue : Queue) (rows : Rows) → soundQueue ofA ofB queue rows ≡ true → chain comesBefore (waiting queue rows) ≡ true
@@ -139,10 +131,10 @@ ready-down = due-down (λ (p : Pair). p .meeting .start) comesBefore before-star
 
 module _ (queue : Queue) (rows : Rows) (h : Holds queue rows) where
   pub holds-length : length rows ≡ places
-  holds-length = stores-length pairIn rowOf places 8 (queue .count) rows h
+  holds-length = stores-length pairIn pairNumbers places 8 (queue .count) rows h
 
   waiting-length : length (waiting queue rows) ≡ queue .count
-  waiting-length = content-length pairIn rowOf places 8 (queue .count) rows h
+  waiting-length = content-length pairIn pairNumbers places 8 (queue .count) rows h
 
   -- neighbours in order are all in order
   pub ascending-rows : chain comesBefore (waiting queue rows) ≡ true → Ascending rowBefore (take (queue .count) rows)
@@ -153,7 +145,7 @@ module _ (queue : Queue) (rows : Rows) (h : Holds queue rows) where
 
   -- ---- the first ones dropped
 
-  map-drop : (k : ℕ) (ps : List Pair) → map rowOf (drop k ps) ≡ drop k (map rowOf ps)
+  map-drop : (k : ℕ) (ps : List Pair) → map pairNumbers (drop k ps) ≡ drop k (map pairNumbers ps)
   map-drop zero ps = refl
   map-drop (suc k) [] = refl
   map-drop (suc k) (p ∷ ps) = map-drop k ps
@@ -164,8 +156,8 @@ module _ (queue : Queue) (rows : Rows) (h : Holds queue rows) where
   dropped k moved left less e f =
       let n : queue .count - k ≡ length (drop k (waiting queue rows)) = sym (length-drop k (waiting queue rows) ∙ ap (λ (m : ℕ). m - k) waiting-length) in (
         ap (λ (m : ℕ). record { count = m }) n,
-        moved-padded places (queue .count) k (replicate 8 0) rows moved left holds-length (h .few) less (stores-rest pairIn rowOf places 8 (queue .count) rows h) e f
-            ∙ ap (padTo places (replicate 8 0)) (ap (drop k) (stores-rows pairIn rowOf places 8 (queue .count) rows h) ∙ sym (map-drop k (waiting queue rows))),
+        moved-padded places (queue .count) k (replicate 8 0) rows moved left holds-length (h .few) less (stores-rest pairIn pairNumbers places 8 (queue .count) rows h) e f
+            ∙ ap (padTo places (replicate 8 0)) (ap (drop k) (stores-rows pairIn pairNumbers places 8 (queue .count) rows h) ∙ sym (map-drop k (waiting queue rows))),
       )
 
   -- ---- what is ready
@@ -201,32 +193,32 @@ module _ (queue : Queue) (rows : Rows) (h : Holds queue rows) where
 
   -- ---- the new pairs merged
 
-  insert-rows : (p : Pair) (ps : List Pair) → insertBy rowBefore (rowOf p) (map rowOf ps) ≡ map rowOf (insertBy comesBefore p ps)
+  insert-rows : (p : Pair) (ps : List Pair) → insertBy rowBefore (pairNumbers p) (map pairNumbers ps) ≡ map pairNumbers (insertBy comesBefore p ps)
   insert-rows p [] = refl
-  insert-rows p (q ∷ ps) = rw (pair-row p, pair-row q) (go (comesBefore p q) (insert-rows p ps))
+  insert-rows p (q ∷ ps) = rw (pair-numbers p, pair-numbers q) (go (comesBefore p q) (insert-rows p ps))
     where
-      go : (b : Bool) → insertBy rowBefore (rowOf p) (map rowOf ps) ≡ map rowOf (insertBy comesBefore p ps)
-          → cond b (rowOf p ∷ rowOf q ∷ map rowOf ps) (rowOf q ∷ insertBy rowBefore (rowOf p) (map rowOf ps)) ≡ map rowOf (cond b (p ∷ q ∷ ps) (q ∷ insertBy comesBefore p ps))
+      go : (b : Bool) → insertBy rowBefore (pairNumbers p) (map pairNumbers ps) ≡ map pairNumbers (insertBy comesBefore p ps)
+          → cond b (pairNumbers p ∷ pairNumbers q ∷ map pairNumbers ps) (pairNumbers q ∷ insertBy rowBefore (pairNumbers p) (map pairNumbers ps)) ≡ map pairNumbers (cond b (p ∷ q ∷ ps) (q ∷ insertBy comesBefore p ps))
       go true e = refl
-      go false e = ap {B = Rows} (λ l. rowOf q ∷ l) e
+      go false e = ap {B = Rows} (λ l. pairNumbers q ∷ l) e
 
-  insertAll-rows : (new ps : List Pair) → insertAllBy rowBefore (map rowOf new) (map rowOf ps) ≡ map rowOf (insertAllBy comesBefore new ps)
+  insertAll-rows : (new ps : List Pair) → insertAllBy rowBefore (map pairNumbers new) (map pairNumbers ps) ≡ map pairNumbers (insertAllBy comesBefore new ps)
   insertAll-rows [] ps = refl
-  insertAll-rows (p ∷ new) ps = ap (insertAllBy rowBefore (map rowOf new)) (insert-rows p ps) ∙ insertAll-rows new (insertBy comesBefore p ps)
+  insertAll-rows (p ∷ new) ps = ap (insertAllBy rowBefore (map pairNumbers new)) (insert-rows p ps) ∙ insertAll-rows new (insertBy comesBefore p ps)
 
   -- the rows of the new pairs among those of the waiting ones store the merged pairs
   pub merged : (new : List Pair) (left : Rows) → queue .count + length new ≤ places
-      → left ≡ insertAllBy rowBefore (map rowOf new) (take (queue .count) rows) ++ drop (queue .count + length (map rowOf new)) rows
+      → left ≡ insertAllBy rowBefore (map pairNumbers new) (take (queue .count) rows) ++ drop (queue .count + length (map pairNumbers new)) rows
       → left ≡ rowsOf (insertAllBy comesBefore new (waiting queue rows))
   merged new left room e =
       let all = insertAllBy comesBefore new (waiting queue rows) in
-      let m : queue .count + length (map rowOf new) ≡ queue .count + length new = ap (λ (k : ℕ). queue .count + k) (length-map new rowOf) in
-      let long : length (map rowOf all) ≡ queue .count + length new = length-map all rowOf ∙ insertAllBy-length comesBefore new (waiting queue rows) ∙ omega (arith, waiting-length) in
+      let m : queue .count + length (map pairNumbers new) ≡ queue .count + length new = ap (λ (k : ℕ). queue .count + k) (length-map new pairNumbers) in
+      let long : length (map pairNumbers all) ≡ queue .count + length new = length-map all pairNumbers ∙ insertAllBy-length comesBefore new (waiting queue rows) ∙ omega (arith, waiting-length) in
       e
-      ∙ ap (λ (l : Rows). insertAllBy rowBefore (map rowOf new) l ++ drop (queue .count + length (map rowOf new)) rows) (stores-rows pairIn rowOf places 8 (queue .count) rows h)
-      ∙ ap (λ (l : Rows). l ++ drop (queue .count + length (map rowOf new)) rows) (insertAll-rows new (waiting queue rows))
-      ∙ ap (λ (k : ℕ). map rowOf all ++ drop k rows) m
-      ∙ padded-over places (queue .count) (queue .count + length new) (replicate 8 0) rows (map rowOf all) (stores-rest pairIn rowOf places 8 (queue .count) rows h) (omega arith) room long
+      ∙ ap (λ (l : Rows). insertAllBy rowBefore (map pairNumbers new) l ++ drop (queue .count + length (map pairNumbers new)) rows) (stores-rows pairIn pairNumbers places 8 (queue .count) rows h)
+      ∙ ap (λ (l : Rows). l ++ drop (queue .count + length (map pairNumbers new)) rows) (insertAll-rows new (waiting queue rows))
+      ∙ ap (λ (k : ℕ). map pairNumbers all ++ drop k rows) m
+      ∙ padded-over places (queue .count) (queue .count + length new) (replicate 8 0) rows (map pairNumbers all) (stores-rest pairIn pairNumbers places 8 (queue .count) rows h) (omega arith) room long
 
   pub merged-count : (new : List Pair) → record { count = queue .count + length new } ≡ queueOf (insertAllBy comesBefore new (waiting queue rows))
   merged-count new =

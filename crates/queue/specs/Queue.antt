@@ -1,36 +1,25 @@
 -- The queue: up to 256 pairs formed and not yet handed out, in the plain list's order, in places that the caller lends.
 use Prim.Native.Nat.{ℕ}
 use mathlib.Core.Bool.{Bool, _&&_}
-use mathlib.Core.List.{List, [], _∷_, map}
+use mathlib.Core.List.{List, map}
 use lib.Dec.{ltb, leb, eqb}
-use lib.ListN.{length, drop, getD}
+use lib.ListN.{length, drop}
 use Rattle.interval.specs.Interval.{properOf}
 use Rattle.lists.specs.Judge.{allOf, chain}
 use Rattle.lists.specs.Store.{Rows, content, stored, Stores}
 use Rattle.pairing.specs.declared.Pair.{Pair}
 use Rattle.pairing.specs.declared.Partner.{Partner}
 use Rattle.pairing.specs.Pair.{comesBefore}
+use Rattle.pairing.specs.Numbers.{pairNumbers, pairIn}
 use Rattle.journal.specs.declared.Gate.{Gate}
 use Rattle.journal.specs.Journal.{due}
 use Rattle.queue.specs.declared.Queue.{Queue}
-
--- a place holds start, end, A ordinal, B ordinal, A key, B key, A value and B value
-unfoldable pub pairIn : List ℕ → Pair
-pairIn row = record {
-  meeting = record { start = getD row 0 0; end = getD row 1 0 };
-  a = record { ordinal = getD row 2 0; key = getD row 4 0; value = getD row 6 0 };
-  b = record { ordinal = getD row 3 0; key = getD row 5 0; value = getD row 7 0 };
-}
-
-unfoldable pub rowOf : Pair → List ℕ
-rowOf p =
-    p .meeting .start ∷ p .meeting .end ∷ p .a .ordinal ∷ p .b .ordinal ∷ p .a .key ∷ p .b .key ∷ p .a .value ∷ p .b .value ∷ []
 
 -- Limits: 256 waiting pairs.
 abbrev pub places : ℕ
 places = 256
 
--- the waiting pairs, in the order of their places
+-- the waiting pairs, in the order of their places; a place holds the numbers of a pair
 abbrev pub waiting : Queue → Rows → List Pair
 waiting queue rows = content pairIn (queue .count) rows
 
@@ -39,10 +28,10 @@ abbrev pub queueOf : List Pair → Queue
 queueOf ps = record { count = length ps }
 
 abbrev pub rowsOf : List Pair → Rows
-rowsOf ps = stored rowOf places 8 ps
+rowsOf ps = stored pairNumbers places 8 ps
 
 abbrev pub Holds : Queue → Rows → Type 0
-Holds queue rows = Stores pairIn rowOf places 8 (queue .count) rows
+Holds queue rows = Stores pairIn pairNumbers places 8 (queue .count) rows
 
 -- A waiting pair is ready when its start is below the clock of every open journal; with both closed, all are ready.
 unfoldable pub ready : Gate → Gate → Pair → Bool

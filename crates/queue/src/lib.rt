@@ -22,8 +22,9 @@ ghost use Rattle.lists.proofs.Merge.{Slid};
 ghost use Rattle.lists.proofs.Order.{Ascending};
 ghost use Rattle.pairing.specs.Pair.{comesBefore};
 ghost use Rattle.pairing.specs.Side.{newPairs};
+ghost use Rattle.pairing.specs.Numbers.{pairIn, pairNumbers};
 ghost use Rattle.area.specs.Area as the_area;
-ghost use Rattle.queue.specs.Queue.{pairIn, rowOf, places, waiting, queueOf, rowsOf, Holds, ready, soundPair, isZero, isBlank, soundQueue};
+ghost use Rattle.queue.specs.Queue.{places, waiting, queueOf, rowsOf, Holds, ready, soundPair, isZero, isBlank, soundQueue};
 
 // How many of the places are taken.
 pub struct Queue {
@@ -61,7 +62,7 @@ pub fn pair_in(row: [u32; 8]) -> Pair
 
 // The row of a pair.
 fn row_of(p: Pair) -> [u32; 8]
-    ensures { λ r. ⌜ r ≡ rowOf p ⌝ }
+    ensures { λ r. ⌜ r ≡ pairNumbers p ⌝ }
 {
     [
         p.meeting.start,
@@ -116,7 +117,7 @@ fn blank(rows: &mut Places, from: usize, to: usize)
 // Of the first w pairs, those that p comes before moved up by gap places, and p below them; answers how many are below p.
 fn slide(rows: &mut Places, w: usize, gap: usize, p: Pair) -> usize
     requires { ⌜ (0 < gap) × (w + gap ≤ places) × (length (now rows) ≡ places) × Ascending (λ x y. comesBefore (pairIn x) (pairIn y)) (take w (now rows)) ⌝ }
-    ensures { λ r. ⌜ Slid (λ x y. comesBefore (pairIn x) (pairIn y)) (rowOf p) (now (rows .entry)) w gap r (now (rows .exit)) ⌝ }
+    ensures { λ r. ⌜ Slid (λ x y. comesBefore (pairIn x) (pairIn y)) (pairNumbers p) (now (rows .entry)) w gap r (now (rows .exit)) ⌝ }
 {
     let mut k = w;
     while k > 0 {

@@ -2,7 +2,7 @@
 use borrow.Author.Needs.{needs}
 use mathlib.Core.Path.{sym, ap}
 use denote.Ref.{now}
-use Rattle.feed.specs.Record.{pairFrom}
+use Rattle.pairing.specs.Numbers.{pairIn}
 use Rattle.feed.proofs.Fields.{pair-places}
 use Rattle.feed.proofs.pair_in.Statement.{statement}
 use Rattle.feed.proofs.pair_in.Tie as tie
@@ -32,7 +32,8 @@ get32-requires-8 : tie.Need-get32-requires-8
 get32-requires-8 c κs = search needs
 
 returns : tie.Need-returns
-returns c = simp (c .get328 .ensures, c .before .get327 .ensures, c .before .before .get326 .ensures, c .before .before .before .get325 .ensures, c .before .before .before .before .get324 .ensures, c .before .before .before .before .before .get323 .ensures, c .before .before .before .before .before .before .get322 .ensures, c .before .before .before .before .before .before .before .get32 .ensures) (sym (ap pairFrom (pair-places (now (c .before .before .before .before .before .before .before .before .before .args .s)))))
+unfolding pairIn
+returns c = simp (c .get328 .ensures, c .before .get327 .ensures, c .before .before .get326 .ensures, c .before .before .before .get325 .ensures, c .before .before .before .before .get324 .ensures, c .before .before .before .before .before .get323 .ensures, c .before .before .before .before .before .before .get322 .ensures, c .before .before .before .before .before .before .before .get32 .ensures) (sym (ap pairIn (pair-places (now (c .before .before .before .before .before .before .before .before .before .args .s)))))
 
 pub pair-in-spec : {M : Type 1} → statement M
 pair-in-spec =

@@ -5,6 +5,7 @@ use mathlib.Core.List.{List, _++_}
 use mathlib.Core.Path.{sym, ap, _∙_}
 use Prim.Native.Nat.{ℕ}
 use denote.Ref.{now}
+use Rattle.pairing.specs.Numbers.{pairNumbers}
 use Rattle.feed_write.specs.declared.Writing.the-variants.{Written}
 use Rattle.feed.specs.Number.{bytes}
 use Rattle.feed.specs.Record.{pairBytes}
@@ -14,7 +15,7 @@ use Rattle.feed_write.proofs.write_pair.Statement.{statement}
 use Rattle.feed_write.proofs.write_pair.Tie as tie
 
 returns : tie.Need-returns
-unfolding pairBytes
+unfolding pairNumbers pairBytes
 returns c = sym (pair-room-refused _ _ (c .if1 .taken))
 
 put-head-requires : tie.Need-put-head-requires
@@ -36,7 +37,7 @@ same-length : tie.Need-same-length
 same-length c = search needs
 
 returns-2 : tie.Need-returns-2
-unfolding pairBytes
+unfolding pairNumbers pairBytes
 returns-2 c =
     let a = c .before .before .before .before .before .before .before .before .before .before .before .before .before .before .before .before .before .before .before .before .before .before .args in
     let p = a .pair in

@@ -12,7 +12,7 @@ use Rattle.lists.specs.Judge.{chain}
 use Rattle.lists.proofs.Judge.{chain-more, chain-fails, chain-short, chain-end}
 use Rattle.pairing.specs.declared.Pair.{Pair}
 use Rattle.pairing.specs.Pair.{comesBefore}
-use Rattle.queue.specs.Queue.{pairIn}
+use Rattle.pairing.specs.Numbers.{pairIn}
 use Rattle.queue.proofs.Laws.{rowBefore}
 use Rattle.queue.proofs.in_order.Statement.{statement}
 use Rattle.queue.proofs.in_order.Tie as tie

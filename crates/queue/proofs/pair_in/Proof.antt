@@ -1,6 +1,6 @@
 -- `pair_in` meets its contract, number by number.
 use borrow.Author.Needs.{needs}
-use Rattle.queue.specs.Queue.{pairIn}
+use Rattle.pairing.specs.Numbers.{pairIn}
 use Rattle.queue.proofs.pair_in.Statement.{statement}
 use Rattle.queue.proofs.pair_in.Tie as tie
 

@@ -9,7 +9,8 @@ use lib.ListN.{take}
 use borrow.Author.Tests.{not-true, not-false}
 use Rattle.lists.specs.Judge.{allOf}
 use Rattle.lists.proofs.Judge.{allOf-more, allOf-fails}
-use Rattle.queue.specs.Queue.{pairIn, soundPair}
+use Rattle.pairing.specs.Numbers.{pairIn}
+use Rattle.queue.specs.Queue.{soundPair}
 use Rattle.queue.proofs.pairs_sound.Statement.{statement}
 use Rattle.queue.proofs.pairs_sound.Tie as tie
 

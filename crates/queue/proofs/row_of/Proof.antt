@@ -1,11 +1,11 @@
 -- `row_of` meets its contract, number by number.
 use borrow.Author.Needs.{needs}
-use Rattle.queue.specs.Queue.{rowOf}
+use Rattle.pairing.specs.Numbers.{pairNumbers}
 use Rattle.queue.proofs.row_of.Statement.{statement}
 use Rattle.queue.proofs.row_of.Tie as tie
 
 returns : tie.Need-returns
-unfolding rowOf
+unfolding pairNumbers
 returns c = search needs
 
 pub row-of-spec : {M : Type 1} → statement M

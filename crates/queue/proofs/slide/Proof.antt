@@ -11,8 +11,9 @@ use borrow.Author.Tests.{not-true, not-false}
 use Rattle.lists.proofs.Merge.{Sliding, slide-start, slide-step, slide-end}
 use Rattle.pairing.specs.declared.Pair.{Pair}
 use Rattle.pairing.specs.Pair.{comesBefore}
-use Rattle.queue.specs.Queue.{pairIn, rowOf}
-use Rattle.queue.proofs.Laws.{pair-row, rowBefore, strict-rowBefore}
+use Rattle.pairing.specs.Numbers.{pairIn, pairNumbers}
+use Rattle.pairing.proofs.Numbers.{pair-numbers}
+use Rattle.queue.proofs.Laws.{rowBefore, strict-rowBefore}
 use Rattle.queue.proofs.slide.Statement.{statement}
 use Rattle.queue.proofs.slide.Tie as tie
 
@@ -20,13 +21,13 @@ none : {k : ℕ} (m : ℕ) → k ≡ suc m → k ≤ 0 → ⊥
 none m e h = omega arith
 
 abbrev Inv-loop : tie.InvT-loop
-Inv-loop rows₀ w gap p k₀ rows k = Sliding rowBefore (rowOf p) rows₀ w gap rows k
+Inv-loop rows₀ w gap p k₀ rows k = Sliding rowBefore (pairNumbers p) rows₀ w gap rows k
 
 abbrev μ-loop : tie.MeasureT-loop
 μ-loop rows₀ w gap p k₀ rows k = k
 
 loop-holds : tie.Need-loop-holds Inv-loop μ-loop
-loop-holds c = slide-start rowBefore (rowOf (c .args .p)) [] (c .args .rows .now) (c .args .w) (c .args .gap) (c .pre .0) (omega arith)
+loop-holds c = slide-start rowBefore (pairNumbers (c .args .p)) [] (c .args .rows .now) (c .args .w) (c .args .gap) (c .pre .0) (omega arith)
 
 sub-row : tie.Need-sub-row Inv-loop μ-loop
 sub-row c = search needs
@@ -67,9 +68,9 @@ loop-again c =
     let st = s .before in
     let p = st .args .p in
     let row = getD (s .loop .rows) (s .loop .k - 1) [] in
-    let tested : rowBefore (rowOf p) row ≡ true =
-    ap (λ (q : Pair). comesBefore q (pairIn row)) (pair-row p) ∙ sym (c .before .comes-before .ensures ∙ ap (comesBefore p) (c .before .before .pair-in .ensures)) ∙ not-false _ (c .if1 .left) in
-    slide-step rowBefore (rowOf p) [] (st .args .rows .now) (st .args .w) (st .args .gap) (st .pre .0) (omega arith) (s .loop .rows) (s .loop .k) (s .loop .inv) (s .loop .k - 1) (omega arith) tested
+    let tested : rowBefore (pairNumbers p) row ≡ true =
+    ap (λ (q : Pair). comesBefore q (pairIn row)) (pair-numbers p) ∙ sym (c .before .comes-before .ensures ∙ ap (comesBefore p) (c .before .before .pair-in .ensures)) ∙ not-false _ (c .if1 .left) in
+    slide-step rowBefore (pairNumbers p) [] (st .args .rows .now) (st .args .w) (st .args .gap) (st .pre .0) (omega arith) (s .loop .rows) (s .loop .k) (s .loop .inv) (s .loop .k - 1) (omega arith) tested
 
 row-of-requires : tie.Need-row-of-requires Inv-loop μ-loop
 row-of-requires c κs = search needs
@@ -91,19 +92,19 @@ returns c =
     let s = c .before .before in
     let st = s .before in
     let p = st .args .p in
-    let stop : (m : ℕ) → s .loop .k ≡ suc m → rowBefore (rowOf p) (getD (s .loop .rows) m []) ≡ false = λ m e.
+    let stop : (m : ℕ) → s .loop .k ≡ suc m → rowBefore (pairNumbers p) (getD (s .loop .rows) m []) ≡ false = λ m e.
     ⊎-elim
     (λ w. absurd (none m e (w .left)))
     (λ w.
     let f : s .loop .k - 1 ≡ m = omega arith in
     let row = getD (s .loop .rows) (s .loop .k - 1) [] in
-    ap (λ (i : ℕ). rowBefore (rowOf p) (getD (s .loop .rows) i [])) (sym f)
-    ∙ ap (λ (q : Pair). comesBefore q (pairIn row)) (pair-row p)
+    ap (λ (i : ℕ). rowBefore (pairNumbers p) (getD (s .loop .rows) i [])) (sym f)
+    ∙ ap (λ (q : Pair). comesBefore q (pairIn row)) (pair-numbers p)
     ∙ sym (w .3 .ensures ∙ ap (comesBefore p) (w .2 .ensures))
     ∙ not-true _ (w .4 .taken))
     (c .before .loop-test .came) in
     rw (c .row-of .ensures)
-    (slide-end rowBefore (rowOf p) [] (st .args .rows .now) (st .args .w) (st .args .gap) (st .pre .0) (omega arith) (s .loop .rows) (s .loop .k) (s .loop .inv) strict-rowBefore (st .pre .3) stop)
+    (slide-end rowBefore (pairNumbers p) [] (st .args .rows .now) (st .args .w) (st .args .gap) (st .pre .0) (omega arith) (s .loop .rows) (s .loop .k) (s .loop .inv) strict-rowBefore (st .pre .3) stop)
 
 pub slide-spec : {M : Type 1} → statement M
 slide-spec =

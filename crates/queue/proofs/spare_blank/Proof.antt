@@ -10,7 +10,8 @@ use borrow.Author.Tests.{not-true, not-false}
 use lib.Seq.{slice, slice-empty, take-all}
 use Rattle.lists.specs.Judge.{allOf}
 use Rattle.lists.proofs.Judge.{allOf-more, allOf-fails}
-use Rattle.queue.specs.Queue.{pairIn, isBlank, places}
+use Rattle.pairing.specs.Numbers.{pairIn}
+use Rattle.queue.specs.Queue.{isBlank, places}
 use Rattle.queue.proofs.spare_blank.Statement.{statement}
 use Rattle.queue.proofs.spare_blank.Tie as tie
 

@@ -9,7 +9,8 @@ use mathlib.Core.Path.{_≡_, refl, sym, ap, _∙_}
 use lib.ListN.{getD, drop}
 use borrow.Author.Tests.{not-true, not-false}
 use Rattle.journal.specs.Journal.{isClosed}
-use Rattle.queue.specs.Queue.{pairIn, ready}
+use Rattle.pairing.specs.Numbers.{pairIn}
+use Rattle.queue.specs.Queue.{ready}
 use Rattle.join.specs.State.{stateWith}
 use Rattle.join.specs.Calls.{bothClosed, waitingIn}
 use Rattle.join.proofs.Laws.{none-waits, one-waits, take-none, take-waits, take-first}

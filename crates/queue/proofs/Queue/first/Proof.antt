@@ -5,7 +5,7 @@ use mathlib.Core.List.{[]}
 use mathlib.Core.Path.{sym, ap, _∙_}
 use lib.ListN.{take, List·getD-map}
 use lib.Seq.{getD-take}
-use Rattle.queue.specs.Queue.{pairIn}
+use Rattle.pairing.specs.Numbers.{pairIn}
 use Rattle.queue.proofs.Laws.{holds-length}
 use Rattle.queue.proofs.Queue.first.Statement.{statement}
 use Rattle.queue.proofs.Queue.first.Tie as tie

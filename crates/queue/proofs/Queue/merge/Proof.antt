@@ -16,9 +16,9 @@ use Rattle.pairing.specs.declared.Numbered.{Numbered}
 use Rattle.pairing.specs.declared.Pair.{Pair}
 use Rattle.pairing.specs.Pair.{pairs}
 use Rattle.pairing.specs.Side.{pairFrom, newPairs}
+use Rattle.pairing.specs.Numbers.{pairNumbers}
 use Rattle.area.specs.Area.{held}
 use Rattle.area.proofs.Laws as area-laws
-use Rattle.queue.specs.Queue.{rowOf}
 use Rattle.queue.proofs.Laws.{rowBefore, strict-rowBefore, meets, newRow, new-rows, new-ascending, holds-length, ascending-rows, merged, merged-count}
 use Rattle.queue.proofs.Queue.merge.Statement.{statement}
 use Rattle.queue.proofs.Queue.merge.Tie as tie
@@ -44,7 +44,7 @@ ascending st = new-ascending (st .args .rule) (st .args .side) (st .args .x) (ta
 as-many : (st : tie.Start Inv-loop μ-loop) → st .args .new ≡ length (map (newRow (st .args .side) (st .args .x)) (keep (meets (st .args .rule) (st .args .x)) (take (st .args .area .count) (st .args .held .now))))
 as-many st =
     let new = newPairs (st .args .rule) (st .args .side) (st .args .x) (held (st .args .area) (st .args .held .now)) in
-    st .pre .4 ∙ sym (ap length (new-rows (st .args .rule) (st .args .side) (st .args .x) (take (st .args .area .count) (st .args .held .now))) ∙ length-map new rowOf)
+    st .pre .4 ∙ sym (ap length (new-rows (st .args .rule) (st .args .side) (st .args .x) (take (st .args .area .count) (st .args .held .now))) ∙ length-map new pairNumbers)
 
 -- no more are left than there were
 fewer : (st : tie.Start Inv-loop μ-loop) (i : ℕ) → i ≤ st .args .area .count
@@ -112,7 +112,7 @@ loop-again c =
     let tested = sym (c .before .before .before .before .pairs .ensures ∙ ap (λ (y : Numbered). pairs (st .args .rule) (st .args .x .entry) (y .entry)) entry) ∙ c .before .before .before .if1 .taken in
     let formed = c .before .before .pair .ensures ∙ ap (pairFrom (st .args .side) (st .args .x)) entry in
     merge-more (newRow (st .args .side) (st .args .x)) (meets (st .args .rule) (st .args .x)) rowBefore strict-rowBefore (st .args .held .now) (st .args .area .count) (inside st) (st .args .rows .now) (st .args .self .count) (s .loop .rows) (s .loop .i) (s .loop .w) (s .loop .gap) (s .loop .inv) (s .loop .i - 1) here [] tested (c .before .before .before .before .before .before .before .loop-test .taken) (c .slide .last .0) (c .slide .result)
-    (subst (λ (p : Pair). Slid rowBefore (rowOf p) (s .loop .rows) (s .loop .w) (s .loop .gap) (c .slide .result) (c .slide .last .0)) formed (c .slide .ensures))
+    (subst (λ (p : Pair). Slid rowBefore (pairNumbers p) (s .loop .rows) (s .loop .w) (s .loop .gap) (c .slide .result) (c .slide .last .0)) formed (c .slide .ensures))
 
 loop-less-2 : tie.Need-loop-less-2 Inv-loop μ-loop
 loop-less-2 c =

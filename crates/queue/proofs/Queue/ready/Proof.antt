@@ -10,7 +10,8 @@ use lib.ListN.{take}
 use borrow.Author.Tests.{not-true, not-false}
 use Rattle.lists.specs.Judge.{allOf}
 use Rattle.lists.proofs.Judge.{allOf-more}
-use Rattle.queue.specs.Queue.{pairIn, ready}
+use Rattle.pairing.specs.Numbers.{pairIn}
+use Rattle.queue.specs.Queue.{ready}
 use Rattle.queue.proofs.Laws.{holds-length, ready-first}
 use Rattle.queue.proofs.Queue.ready.Statement.{statement}
 use Rattle.queue.proofs.Queue.ready.Tie as tie
