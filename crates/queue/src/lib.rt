@@ -223,6 +223,9 @@ impl Queue {
         ensures { λ r. ⌜ r ≡ queueOf (drop k (waiting self (now (rows .entry)))) ⌝ }
         ensures { λ _. ⌜ now (rows .exit) ≡ rowsOf (drop k (waiting self (now (rows .entry)))) ⌝ }
     {
+        if k == 0 {
+            return self;
+        }
         let n = self.count;
         move_down(rows, k, n);
         blank(rows, n - k, n);
