@@ -6,12 +6,12 @@ use mathlib.Core.Bool.{Bool, true, false, cond, true≢false}
 use mathlib.Core.List.{List, [], _∷_, _++_, append-assoc, map, map-append}
 use mathlib.Core.Logic.{inl}
 use mathlib.Core.Path.{_≡_, refl, sym, ap, _∙_}
-use lib.ListN.{length, take, drop, set, getD, length-append, length-take, length-map, length-set, take-append-drop}
+use lib.ListN.{length, take, drop, set, getD, length-append, length-take, length-set, take-append-drop}
 use lib.Seq.{slice, slice-cons, slice-empty, drop-cons, getD-take, take-take, take-set-le, drop-set-lt, getD-set-same, lt-length-set}
 use Rattle.lists.specs.Keep.{keep}
 use Rattle.lists.specs.Sort.{insertBy, insertAllBy}
 use Rattle.lists.proofs.All.{All, all-map, all-getD, each-first, each-last}
-use Rattle.lists.proofs.Keep.{keep-more, keep-same, keep-bound}
+use Rattle.lists.proofs.Keep.{keep-more}
 use Rattle.lists.proofs.Order.{StrictOrder, Apart, Ascending}
 use Rattle.lists.proofs.Sort.{insertBy-past, insertBy-length}
 
@@ -136,6 +136,12 @@ module _ {A : Type 0} (r : A → A → Bool) (x d : A) (l₀ : List A) (w gap : 
 
 -- ---- all the new elements: f of each source element that passes the test m, the sources taken from the last down
 
+-- of the first i sources, the last that passes the test stands at j
+pub record Last {A : Type 0} (m : A → Bool) (src : List A) (i : ℕ) (d : A) (j : ℕ) : Type 0 where
+  pub below : j < i
+  pub passes : m (getD src j d) ≡ true
+  pub no-other : keep m (take i src) ≡ keep m (take (j + 1) src)
+
 module _ {A B : Type 0} (f : A → B) (m : A → Bool) (r : B → B → Bool) (src : List A) (n : ℕ) (l₀ : List B) (w₀ : ℕ) where
   abbrev news : ℕ → List B
   news i = map f (keep m (take i src))
@@ -169,37 +175,14 @@ module _ {A B : Type 0} (f : A → B) (m : A → Bool) (r : B → B → Bool) (s
   }
 
   module _ (l : List B) (i w gap : ℕ) (s : At l i w gap) where
-    -- there is a source left where there is an element left
-    pub merge-left : gap ≤ i
-    merge-left = omega (arith, s .left, length-map (keep m (take i src)) f, keep-bound m src i)
+    module _ (d : A) (j : ℕ) (last : Last m src i d j) where
+      new-more : new i ≡ new j ++ (f (getD src j d) ∷ [])
+      new-more = ap (map f) (last .no-other ∙ keep-more m src j d (omega (arith, s .small, last .below)) (last .passes)) ∙ map-append f (keep m (take j src)) (getD src j d ∷ [])
 
-    module _ (j : ℕ) (at : i ≡ suc j) (d : A) where
-      here : j < length src
-      here = omega (arith, s .small)
-
-      up : i ≡ j + 1
-      up = omega arith
-
-      new-more : m (getD src j d) ≡ true → new i ≡ new j ++ (f (getD src j d) ∷ [])
-      new-more t = ap new up ∙ ap (map f) (keep-more m src j d here t) ∙ map-append f (keep m (take j src)) (getD src j d ∷ [])
-
-      pub merge-same : m (getD src j d) ≡ false → At l j w gap
-      merge-same t =
-          let e : new i ≡ new j = ap new up ∙ ap (map f) (keep-same m src j d here t) in
-          record {
-            left = s .left ∙ ap length e;
-            few = s .few;
-            small = omega (arith, s .small);
-            long = s .long;
-            front = s .front;
-            ordered = rw e at (s .ordered);
-            rest = ap (λ (ps : List B). insertEach r ps (take w l₀) ++ drop (w + gap) l) (sym e) ∙ s .rest;
-          }
-
-      pub merge-more : m (getD src j d) ≡ true → 0 < gap → (l′ : List B) (w′ : ℕ) → Slid r (f (getD src j d)) l w gap w′ l′ → At l′ j w′ (gap - 1)
-      merge-more t some l′ w′ slid =
+      pub merge-more : 0 < gap → (l′ : List B) (w′ : ℕ) → Slid r (f (getD src j d)) l w gap w′ l′ → At l′ j w′ (gap - 1)
+      merge-more some l′ w′ slid =
           let x = f (getD src j d) in
-          let e = new-more t in
+          let e = new-more in
           let low : take w′ (take w l₀) ≡ take w′ l₀ = take-take w′ w l₀ (slid .at-most) in
           let same : take w′ l ≡ take w′ l₀ = sym (take-take w′ w l (slid .at-most)) ∙ ap (take w′) (s .front) ∙ low in
           let cut : insertBy r x (take w l₀) ≡ take w′ l₀ ++ (x ∷ slice w′ w l) = ap (insertBy r x) (sym (s .front)) ∙ slid .placed ∙ ap (λ (t : List B). t ++ (x ∷ slice w′ w l)) same in
@@ -208,7 +191,7 @@ module _ {A B : Type 0} (f : A → B) (m : A → Bool) (r : B → B → Bool) (s
           record {
             left = omega (arith, s .left, ap length e, length-append (new j) (x ∷ []));
             few = omega (arith, s .few, slid .at-most);
-            small = omega (arith, s .small);
+            small = omega (arith, s .small, last .below);
             long = slid .long ∙ s .long;
             front = slid .front ∙ same;
             ordered = each-first (λ (p q : B). r p q ≡ true) (new j) (x ∷ []) ordered;

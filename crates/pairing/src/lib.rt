@@ -69,12 +69,18 @@ impl Rule {
         }
     }
 
-    // Does an A entry pair with a B entry?
+    // Does an A entry pair with a B entry? The keys tell most couples apart, so they are asked before the meeting.
     pub fn pairs(self, a: Entry, b: Entry) -> bool
         ensures { λ r. ⌜ r ≡ pairs self a b ⌝ }
     {
+        if !a.span.proper() {
+            return false;
+        }
+        if !self.fits(a.key, b.key) {
+            return false;
+        }
         let meeting = a.span.meeting(b.span);
-        a.span.proper() && (b.span.proper() && (meeting.proper() && self.fits(a.key, b.key)))
+        meeting.proper() && b.span.proper()
     }
 }
 

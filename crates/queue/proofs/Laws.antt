@@ -160,6 +160,9 @@ module _ (queue : Queue) (rows : Rows) (h : Holds queue rows) where
             ∙ ap (padTo places (replicate 8 0)) (ap (drop k) (stores-rows pairIn pairNumbers places 8 (queue .count) rows h) ∙ sym (map-drop k (waiting queue rows))),
       )
 
+  pub dropped-none : (queue ≡ queueOf (drop 0 (waiting queue rows))) × (rows ≡ rowsOf (drop 0 (waiting queue rows)))
+  dropped-none = (ap (λ (m : ℕ). record { count = m }) (sym waiting-length), h .same)
+
   -- ---- what is ready
 
   -- the first k are ready and the next is not, or there is no next

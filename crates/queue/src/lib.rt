@@ -3,6 +3,7 @@ use area::Area;
 use area::entry_in;
 use interval::Interval;
 use journal::Gate;
+use pairing::Entry;
 use pairing::Numbered;
 use pairing::Pair;
 use pairing::Partner;
@@ -18,9 +19,9 @@ ghost use Rattle.lists.specs.Judge.{allOf, chain};
 ghost use Rattle.lists.specs.Keep.{keep};
 ghost use Rattle.lists.specs.Sort.{insertAllBy};
 ghost use Rattle.lists.proofs.Array.{Shaped};
-ghost use Rattle.lists.proofs.Merge.{Slid};
+ghost use Rattle.lists.proofs.Merge.{Last, Slid};
 ghost use Rattle.lists.proofs.Order.{Ascending};
-ghost use Rattle.pairing.specs.Pair.{comesBefore};
+ghost use Rattle.pairing.specs.Pair.{pairs, comesBefore};
 ghost use Rattle.pairing.specs.Side.{newPairs};
 ghost use Rattle.pairing.specs.Numbers.{pairIn, pairNumbers};
 ghost use Rattle.area.specs.Area as the_area;
@@ -111,6 +112,21 @@ fn blank(rows: &mut Places, from: usize, to: usize)
     while i < to {
         rows[i] = zeros;
         i += 1;
+    }
+}
+
+// The place of the last of the first n held entries that pair with an entry of the other journal. One of them does.
+fn last_partner(held: &area::Places, n: usize, rule: Rule, e: Entry) -> usize
+    requires { ⌜ (n ≤ the_area.places) × (length (now held) ≡ the_area.places) × (0 < length (keep (λ row. pairs rule e (the_area.heldIn row .entry)) (take n (now held)))) ⌝ }
+    ensures { λ r. ⌜ Last (λ row. pairs rule e (the_area.heldIn row .entry)) (now (held .entry)) n [] r ⌝ }
+{
+    let mut i = n;
+    loop {
+        i -= 1;
+        let y = entry_in(held[i]);
+        if rule.pairs(e, y.entry) {
+            return i;
+        }
     }
 }
 
@@ -224,6 +240,9 @@ impl Queue {
         ensures { λ r. ⌜ r ≡ queueOf (drop k (waiting self (now (rows .entry)))) ⌝ }
         ensures { λ _. ⌜ now (rows .exit) ≡ rowsOf (drop k (waiting self (now (rows .entry)))) ⌝ }
     {
+        if k == 0 {
+            return self;
+        }
         let n = self.count;
         move_down(rows, k, n);
         blank(rows, n - k, n);
@@ -250,13 +269,11 @@ impl Queue {
         let mut w = n;
         let mut gap = new;
         while gap > 0 {
-            i -= 1;
+            i = last_partner(held, i, rule, x.entry);
             let y = entry_in(held[i]);
-            if rule.pairs(x.entry, y.entry) {
-                let p = side.pair(x, y);
-                w = slide(rows, w, gap, p);
-                gap -= 1;
-            }
+            let p = side.pair(x, y);
+            w = slide(rows, w, gap, p);
+            gap -= 1;
         }
         Queue { count: n + new }
     }

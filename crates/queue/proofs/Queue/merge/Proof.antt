@@ -1,20 +1,18 @@
 -- `merge` meets its contract. While it runs, the pairs of the held entries from i on are in their places; `gap` pairs and w waiting ones are left.
 use borrow.Author.Needs.{needs}
-use Prim.Native.Nat.{ℕ, suc, _+_, _-_, _≤_}
+use Prim.Native.Nat.{ℕ, _+_, _-_, _≤_}
 use native.Mathlib.Omega.{arith}
 use mathlib.Core.Bool.{Bool, true}
 use mathlib.Core.List.{List, [], map}
 use mathlib.Core.Path.{_≡_, sym, ap, _∙_, subst}
-use lib.ListN.{length, take, drop, getD, length-map}
+use lib.ListN.{length, take, drop, length-map}
 use lib.Seq.{take-add}
 use Rattle.lists.specs.Keep.{keep}
 use Rattle.lists.proofs.All.{each-first}
 use Rattle.lists.proofs.Keep.{keep-fewer}
-use Rattle.lists.proofs.Merge.{Merging, Slid, merge-start, merge-left, merge-same, merge-more, merge-end}
+use Rattle.lists.proofs.Merge.{Merging, Slid, merge-start, merge-more, merge-end}
 use Rattle.lists.proofs.Order.{Ascending}
-use Rattle.pairing.specs.declared.Numbered.{Numbered}
 use Rattle.pairing.specs.declared.Pair.{Pair}
-use Rattle.pairing.specs.Pair.{pairs}
 use Rattle.pairing.specs.Side.{pairFrom, newPairs}
 use Rattle.pairing.specs.Numbers.{pairNumbers}
 use Rattle.area.specs.Area.{held}
@@ -60,33 +58,35 @@ loop-holds c =
     let st = c in
     merge-start (newRow (st .args .side) (st .args .x)) (meets (st .args .rule) (st .args .x)) rowBefore strict-rowBefore (st .args .held .now) (st .args .area .count) (inside st) (st .args .rows .now) (st .args .self .count) (ascending st) (st .args .new) (as-many st)
 
-sub-i : tie.Need-sub-i Inv-loop μ-loop
-sub-i c =
+last-partner-requires : tie.Need-last-partner-requires Inv-loop μ-loop
+last-partner-requires c κs =
     let s = c .before in
     let st = s .before in
-    omega (arith, merge-left (newRow (st .args .side) (st .args .x)) (meets (st .args .rule) (st .args .x)) rowBefore strict-rowBefore (st .args .held .now) (st .args .area .count) (inside st) (st .args .rows .now) (st .args .self .count) (s .loop .rows) (s .loop .i) (s .loop .w) (s .loop .gap) (s .loop .inv))
+    let inv = s .loop .inv in (
+      omega (arith, inv .small, st .pre .2 .few),
+      area-laws.holds-length (st .args .area) (st .args .held .now) (st .pre .2),
+      omega (arith, c .loop-test .taken, inv .left, length-map (keep (meets (st .args .rule) (st .args .x)) (take (s .loop .i) (st .args .held .now))) (newRow (st .args .side) (st .args .x))),
+    )
 
 mul-entry-in : tie.Need-mul-entry-in Inv-loop μ-loop
-mul-entry-in c = search needs
+mul-entry-in c =
+    let s = c .before .before in
+    omega (arith, c .last-partner .ensures .below, s .loop .inv .small, s .before .pre .2 .few)
 
 element-copy-out-entry-in : tie.Need-element-copy-out-entry-in Inv-loop μ-loop
 element-copy-out-entry-in c =
-    let s = c .before in
-    let st = s .before in
-    omega (arith, merge-left (newRow (st .args .side) (st .args .x)) (meets (st .args .rule) (st .args .x)) rowBefore strict-rowBefore (st .args .held .now) (st .args .area .count) (inside st) (st .args .rows .now) (st .args .self .count) (s .loop .rows) (s .loop .i) (s .loop .w) (s .loop .gap) (s .loop .inv), s .loop .inv .small, inside st)
+    let s = c .before .before in
+    omega (arith, c .last-partner .ensures .below, s .loop .inv .small, s .before .pre .2 .few)
 
 entry-in-requires : tie.Need-entry-in-requires Inv-loop μ-loop
 entry-in-requires c κs = search needs
-
-pairs-requires : tie.Need-pairs-requires Inv-loop μ-loop
-pairs-requires c κs = search needs
 
 pair-requires : tie.Need-pair-requires Inv-loop μ-loop
 pair-requires c κs = search needs
 
 slide-requires : tie.Need-slide-requires Inv-loop μ-loop
 slide-requires c κs =
-    let s = c .before .before .before .before .before .before .before in
+    let s = c .before .before .before .before .before .before in
     let st = s .before in
     let inv = s .loop .inv in
     let full = holds-length (st .args .self) (st .args .rows .now) (st .pre .0) in
@@ -97,39 +97,19 @@ sub-gap : tie.Need-sub-gap Inv-loop μ-loop
 sub-gap c = search needs
 
 loop-less : tie.Need-loop-less Inv-loop μ-loop
-loop-less c =
-    let s = c .before .before .before .before .before .before .before .before in
-    let st = s .before in
-    omega (arith, merge-left (newRow (st .args .side) (st .args .x)) (meets (st .args .rule) (st .args .x)) rowBefore strict-rowBefore (st .args .held .now) (st .args .area .count) (inside st) (st .args .rows .now) (st .args .self .count) (s .loop .rows) (s .loop .i) (s .loop .w) (s .loop .gap) (s .loop .inv), c .before .before .before .before .before .before .before .loop-test .taken)
+loop-less c = c .before .before .before .before .before .last-partner .ensures .below
 
 loop-again : tie.Need-loop-again Inv-loop μ-loop
 loop-again c =
-    let s = c .before .before .before .before .before .before .before .before in
+    let found = c .before .before .before .before .before in
+    let s = found .before .before in
     let st = s .before in
-    let here : s .loop .i ≡ suc (s .loop .i - 1) = omega (arith, merge-left (newRow (st .args .side) (st .args .x)) (meets (st .args .rule) (st .args .x)) rowBefore strict-rowBefore (st .args .held .now) (st .args .area .count) (inside st) (st .args .rows .now) (st .args .self .count) (s .loop .rows) (s .loop .i) (s .loop .w) (s .loop .gap) (s .loop .inv), c .before .before .before .before .before .before .before .loop-test .taken) in
-    let row = getD (st .args .held .now) (s .loop .i - 1) [] in
-    let entry = c .before .before .before .before .before .entry-in .ensures in
-    let tested = sym (c .before .before .before .before .pairs .ensures ∙ ap (λ (y : Numbered). pairs (st .args .rule) (st .args .x .entry) (y .entry)) entry) ∙ c .before .before .before .if1 .taken in
-    let formed = c .before .before .pair .ensures ∙ ap (pairFrom (st .args .side) (st .args .x)) entry in
-    merge-more (newRow (st .args .side) (st .args .x)) (meets (st .args .rule) (st .args .x)) rowBefore strict-rowBefore (st .args .held .now) (st .args .area .count) (inside st) (st .args .rows .now) (st .args .self .count) (s .loop .rows) (s .loop .i) (s .loop .w) (s .loop .gap) (s .loop .inv) (s .loop .i - 1) here [] tested (c .before .before .before .before .before .before .before .loop-test .taken) (c .slide .last .0) (c .slide .result)
+    let formed = c .before .before .pair .ensures ∙ ap (pairFrom (st .args .side) (st .args .x)) (c .before .before .before .entry-in .ensures) in
+    merge-more (newRow (st .args .side) (st .args .x)) (meets (st .args .rule) (st .args .x)) rowBefore strict-rowBefore (st .args .held .now) (st .args .area .count) (inside st) (st .args .rows .now) (st .args .self .count) (s .loop .rows) (s .loop .i) (s .loop .w) (s .loop .gap) (s .loop .inv) [] (found .last-partner .result) (found .last-partner .ensures) (found .before .loop-test .taken) (c .slide .last .0) (c .slide .result)
     (subst (λ (p : Pair). Slid rowBefore (pairNumbers p) (s .loop .rows) (s .loop .w) (s .loop .gap) (c .slide .result) (c .slide .last .0)) formed (c .slide .ensures))
 
-loop-less-2 : tie.Need-loop-less-2 Inv-loop μ-loop
-loop-less-2 c =
-    let s = c .before .before .before .before .before in
-    let st = s .before in
-    omega (arith, merge-left (newRow (st .args .side) (st .args .x)) (meets (st .args .rule) (st .args .x)) rowBefore strict-rowBefore (st .args .held .now) (st .args .area .count) (inside st) (st .args .rows .now) (st .args .self .count) (s .loop .rows) (s .loop .i) (s .loop .w) (s .loop .gap) (s .loop .inv))
-
-loop-again-2 : tie.Need-loop-again-2 Inv-loop μ-loop
-loop-again-2 c =
-    let s = c .before .before .before .before .before in
-    let st = s .before in
-    let here : s .loop .i ≡ suc (s .loop .i - 1) = omega (arith, merge-left (newRow (st .args .side) (st .args .x)) (meets (st .args .rule) (st .args .x)) rowBefore strict-rowBefore (st .args .held .now) (st .args .area .count) (inside st) (st .args .rows .now) (st .args .self .count) (s .loop .rows) (s .loop .i) (s .loop .w) (s .loop .gap) (s .loop .inv)) in
-    let tested = sym (c .before .pairs .ensures ∙ ap (λ (y : Numbered). pairs (st .args .rule) (st .args .x .entry) (y .entry)) (c .before .before .entry-in .ensures)) ∙ c .if1 .left in
-    merge-same (newRow (st .args .side) (st .args .x)) (meets (st .args .rule) (st .args .x)) rowBefore strict-rowBefore (st .args .held .now) (st .args .area .count) (inside st) (st .args .rows .now) (st .args .self .count) (s .loop .rows) (s .loop .i) (s .loop .w) (s .loop .gap) (s .loop .inv) (s .loop .i - 1) here [] tested
-
-add-t22 : tie.Need-add-t22 Inv-loop μ-loop
-add-t22 c = search needs
+add-t21 : tie.Need-add-t21 Inv-loop μ-loop
+add-t21 c = search needs
 
 returns : tie.Need-returns Inv-loop μ-loop
 returns c =
@@ -150,17 +130,14 @@ merge-spec =
     Inv-loop
     μ-loop
     loop-holds
-    sub-i
+    last-partner-requires
     mul-entry-in
     element-copy-out-entry-in
     entry-in-requires
-    pairs-requires
     pair-requires
     slide-requires
     sub-gap
     loop-less
     loop-again
-    loop-less-2
-    loop-again-2
-    add-t22
+    add-t21
     returns)
