@@ -78,3 +78,18 @@ pub fn long_feed(seed: u64, count: u64) -> Vec<u8> {
 pub fn example_of_the_document() -> Vec<u8> {
     ordinary::example(&mut Chance::new(0), 0)
 }
+
+#[cfg(test)]
+mod tests {
+    use super::*;
+    use crate::joinfeed::joinfeed;
+
+    #[test]
+    fn a_long_feed_is_accepted_whole_and_depends_on_its_seed() {
+        let printed = joinfeed(&long_feed(1, 5_000));
+        let last = printed.lines().last().unwrap();
+        assert!(last.starts_with("done 5002 "), "{last}");
+        assert_eq!(long_feed(1, 5_000), long_feed(1, 5_000));
+        assert_ne!(long_feed(1, 5_000), long_feed(2, 5_000));
+    }
+}
