@@ -148,18 +148,17 @@ pub fn join_input(limit: u32) {
     }
 }
 
-// The place behind a window of so many bytes, or behind all of them.
+// The place behind so many bytes from a place on, or behind all of them.
 fn window_end(at: usize, size: usize, all: usize) -> usize
     requires { ⌜ at ≤ all ⌝ }
-    ensures { λ r. ⌜ (at ≤ r) × (r ≤ all) ⌝ }
+    ensures { λ r. ⌜ (at ≤ r) × (r ≤ all) × (r ≤ at + size) ⌝ }
 {
     if all - at < size { all } else { at + size }
 }
 
-// Joins a feed that is at hand, through windows of so many bytes. No window shows that it ends before the limit does, which is the feed's length.
-pub fn join_bytes(feed: &[u8], size: usize)
-    requires { ⌜ length (now feed) ≤ 4294967295 ⌝ }
-{
+// Joins a feed that is at hand, through windows of so many bytes. That a window is the last one shows by the limit alone, which is the feed's length.
+pub fn join_bytes(feed: &[u8], size: usize) {
+    let all = window_end(0, READ_LIMIT as usize, feed.len());
     let mut a = area::no_places();
     let mut b = area::no_places();
     let mut rows = queue::no_places();
@@ -173,14 +172,14 @@ pub fn join_bytes(feed: &[u8], size: usize)
     let mut filled = 0;
     loop {
         filled = make_room(&out, filled);
-        let end = window_end(at, size, feed.len());
+        let end = window_end(at, size, all);
         let stepped = step_on(
             join,
             &mut a,
             &mut b,
             &mut rows,
             counts,
-            feed.len() - at,
+            all - at,
             feed,
             Unused {
                 at,

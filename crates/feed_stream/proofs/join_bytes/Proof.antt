@@ -3,7 +3,6 @@ use borrow.Author.Needs.{needs}
 use Prim.Native.Nat.{_+_, _-_, _≤_}
 use native.Mathlib.Omega.{arith}
 use mathlib.Core.Path.{_≡_, sym, subst}
-use denote.Ref.{now}
 use lib.ListN.{length}
 use lib.Seq.{length-take-le}
 use Rattle.feed_join.specs.Printed.{Progress}
@@ -14,14 +13,20 @@ use Rattle.feed_stream.proofs.join_bytes.Statement.{statement}
 use Rattle.feed_stream.proofs.join_bytes.Tie as tie
 
 abbrev Inv-loop : tie.InvT-loop
-Inv-loop feed size a₀ b₀ rows₀ join₀ counts₀ at₀ out₀ filled₀ a b rows join counts at out filled =
-    (Kept (progressWith join a b rows counts) (length feed - at))
-    × (at ≤ length feed)
+Inv-loop feed size all a₀ b₀ rows₀ join₀ counts₀ at₀ out₀ filled₀ a b rows join counts at out filled =
+    (Kept (progressWith join a b rows counts) (all - at))
+    × (at ≤ all)
     × (filled ≤ 65536)
     × (length out ≡ 65536)
 
 abbrev μ-loop : tie.MeasureT-loop
-μ-loop feed size a₀ b₀ rows₀ join₀ counts₀ at₀ out₀ filled₀ a b rows join counts at out filled = length feed - at
+μ-loop feed size all a₀ b₀ rows₀ join₀ counts₀ at₀ out₀ filled₀ a b rows join counts at out filled = all - at
+
+cast-window-end : tie.Need-cast-window-end Inv-loop μ-loop
+cast-window-end c = search needs
+
+window-end-requires : tie.Need-window-end-requires Inv-loop μ-loop
+window-end-requires c κs = search needs
 
 no-places-requires : tie.Need-no-places-requires Inv-loop μ-loop
 no-places-requires c κs = search needs
@@ -41,8 +46,9 @@ large-buffer-requires c κs = search needs
 loop-holds : tie.Need-loop-holds Inv-loop μ-loop
 loop-holds c =
     let start = begun-with (c .before .fresh .ensures) (c .before .before .before .before .no-places .ensures) (c .before .before .before .no-places2 .ensures) (c .before .before .no-places3 .ensures) in
-    let few = c .before .before .before .before .before .before .pre in
-    (subst (λ (p : Progress). Kept p (length (now (c .before .before .before .before .before .before .args .feed)) - 0)) (sym start) (kept-begun _ (omega arith)), omega arith, omega arith, sym (c .large-buffer .ensures))
+    let all = c .before .before .before .before .before .window-end in
+    let few = all .ensures .2 in
+    (subst (λ (p : Progress). Kept p (all .result - 0)) (sym start) (kept-begun _ (omega arith)), omega arith, omega arith, sym (c .large-buffer .ensures))
 
 slice-aggregate-make-room : tie.Need-slice-aggregate-make-room Inv-loop μ-loop
 slice-aggregate-make-room c = search needs
@@ -50,8 +56,8 @@ slice-aggregate-make-room c = search needs
 make-room-requires : tie.Need-make-room-requires Inv-loop μ-loop
 make-room-requires c κs = search needs
 
-window-end-requires : tie.Need-window-end-requires Inv-loop μ-loop
-window-end-requires c κs = search needs
+window-end-requires-2 : tie.Need-window-end-requires-2 Inv-loop μ-loop
+window-end-requires-2 c κs = search needs
 
 sub-step-on : tie.Need-sub-step-on Inv-loop μ-loop
 sub-step-on c = search needs
@@ -85,12 +91,12 @@ loop-again : tie.Need-loop-again Inv-loop μ-loop
 loop-again c =
     let s = c .before .before .before .before .before .before .before .step-on in
     let l = c .before .before .before .before .before .before .before .before .before .before .before .before .before .before .before .loop in
-    let st = c .before .before .before .before .before .before .before .before .before .before .before .before .before .before .before .before .before .before .before .before .before .before in
+    let all = c .before .before .before .before .before .before .before .before .before .before .before .before .before .before .before .before .before .before .before .before .before .window-end .result in
     let few = s .ensures .1 .0 .0 in
     let far = s .ensures .1 .0 .2 in
     let long = l .inv .3 in
     let within = l .inv .1 in
-    let rest : length (now (st .args .feed)) - l .at - s .result .used ≡ length (now (st .args .feed)) - (l .at + s .result .used) = omega arith in
+    let rest : all - l .at - s .result .used ≡ all - (l .at + s .result .used) = omega arith in
     (rw rest at (s .ensures .0), omega arith, omega arith, c .before .before .before .before .before .before .out3 .given)
 
 array-share-prefix-out : tie.Need-array-share-prefix-out Inv-loop μ-loop
@@ -119,6 +125,8 @@ join-bytes-spec =
     (tie.spec
     Inv-loop
     μ-loop
+    cast-window-end
+    window-end-requires
     no-places-requires
     no-places-requires-2
     no-places-requires-3
@@ -127,7 +135,7 @@ join-bytes-spec =
     loop-holds
     slice-aggregate-make-room
     make-room-requires
-    window-end-requires
+    window-end-requires-2
     sub-step-on
     slice-aggregate-step-on
     step-on-requires

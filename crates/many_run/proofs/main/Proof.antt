@@ -61,11 +61,7 @@ add-join-bytes : tie.Need-add-join-bytes Inv-loop μ-loop
 add-join-bytes c = search needs
 
 join-bytes-requires : tie.Need-join-bytes-requires Inv-loop μ-loop
-join-bytes-requires c κs =
-    let same = simp length-take at (c .before .feed2 .given) in
-    let long = c .before .before .before .before .before .before .before .before .before .before .before .loop .inv in
-    let got = c .before .before .read-full2 .ensures .0 in
-    simp (length-take, length-append) (omega arith)
+join-bytes-requires c κs = search needs
 
 add-n : tie.Need-add-n Inv-loop μ-loop
 add-n c = search needs
