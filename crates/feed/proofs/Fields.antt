@@ -65,9 +65,12 @@ drop-take zero n bs = rw zero-add
 drop-take (suc m) n [] = rw (suc-add, take-nil)
 drop-take (suc m) n (b ∷ bs) = rw suc-add (drop-take m n bs)
 
+pub drop-first : (m n : ℕ) (bs : List ℕ) → m ≤ n → drop m (take n bs) ≡ take (n - m) (drop m bs)
+drop-first m n bs h =
+    let split : n ≡ m + (n - m) = omega arith in
+    ap (λ (k : ℕ). drop m (take k bs)) split ∙ drop-take m (n - m) bs
+
 pub unpacked-take : (widths : List ℕ) (n : ℕ) (bs : List ℕ) → total widths ≤ n → unpacked widths (take n bs) ≡ unpacked widths bs
 unpacked-take [] n bs h = refl
 unpacked-take (width ∷ widths) n bs h =
-    let split : n ≡ width + (n - width) = omega arith in
-    let rest : drop width (take n bs) ≡ take (n - width) (drop width bs) = ap (λ (k : ℕ). drop width (take k bs)) split ∙ drop-take width (n - width) bs in
-    rw (take-take width n bs (omega arith), rest, unpacked-take widths (n - width) (drop width bs) (omega arith))
+    rw (take-take width n bs (omega arith), drop-first width n bs (omega arith), unpacked-take widths (n - width) (drop width bs) (omega arith))

@@ -5,9 +5,13 @@ use Prim.Native.Nat.{ℕ}
 use denote.Ref.{now}
 use Rattle.unique.specs.Unique.{OneResult, OneOutcome}
 use Rattle.unique.proofs.Equation.{one-by-equation}
+use Rattle.feed.proofs.shows.Reads as shows
 use Rattle.feed.proofs.read.Reads as read
 use Rattle.feed.proofs.read_pair.Reads as read-pair
 use Rattle.feed.proofs.text.Reads as text
+
+one-shows : OneResult shows.Post
+one-shows = one-by-equation _ _
 
 one-read : OneResult read.Post
 one-read = one-by-equation _ _

@@ -1,9 +1,9 @@
 -- A reading answers a record with the place of the next, or a refusal with its place (the record's first byte), or End where no byte is left, a place past the feed's end included.
 use Prim.Native.Nat.{ℕ, _+_}
-use mathlib.Core.Bool.{Bool, true, false, cond, not, _||_}
+use mathlib.Core.Bool.{Bool, true, false, cond, not, _&&_, _||_}
 use mathlib.Core.List.{List, [], _∷_}
 use lib.ListN.{length, take, drop}
-use lib.Dec.{ltb, eqb}
+use lib.Dec.{ltb, leb, eqb}
 use Rattle.feed.specs.declared.Feed.{Feed}
 use Rattle.feed.specs.declared.Feed.the-variants.{Input, Output}
 use Rattle.feed.specs.declared.Lengths.{Lengths}
@@ -31,6 +31,10 @@ kindIn bs = value (take 2 (drop 2 bs))
 -- a length is below the shortest or above the longest
 unfoldable pub outside : ℕ → ℕ → ℕ → Bool
 outside shortest longest n = ltb n shortest || ltb longest n
+
+-- Some bytes show the record that stands first in them: its length is there, and as many bytes as it says, or it is a length that no record has. What follows them does not matter.
+unfoldable pub shows : List ℕ → Bool
+shows bs = leb 2 (length bs) && (outside 2 66 (lengthIn bs) || leb (2 + lengthIn bs) (length bs))
 
 -- the feed does not know the kind, or its records have other lengths; the second is only asked of a kind that it knows
 abbrev pub unknown : Lengths → Bool

@@ -11,7 +11,7 @@ ghost use Rattle.feed.specs.Kind.{entry, mark, close, pair, lengthsOf, f
 ghost use Rattle.pairing.specs.Numbers.{pairIn};
 ghost use Rattle.feed.specs.Record.{entryFrom, markFrom, closeFrom, recordIn, streamKnown};
 ghost use Rattle.feed.specs.Text.{textAt, IsStretch};
-ghost use Rattle.feed.specs.Reading.{outside, kindChecks, headUnless, headOf, foundAt, reading, pairReading};
+ghost use Rattle.feed.specs.Reading.{outside, shows, kindChecks, headUnless, headOf, foundAt, reading, pairReading};
 
 // The table of kinds: the number of each, and the length of its records, which counts all that follows it.
 pub const ENTRY: u16 = 1;
@@ -107,6 +107,17 @@ fn outside(size: u16, shortest: u16, longest: u16) -> bool
     ensures { λ r. ⌜ r ≡ outside shortest longest size ⌝ }
 {
     size < shortest || longest < size
+}
+
+// Do some bytes show the record that stands first in them, or a length that no record has? What follows them does not matter then.
+pub fn shows(s: &[u8]) -> bool
+    ensures { λ r. ⌜ r ≡ shows (now (s .entry)) ⌝ }
+{
+    if s.len() < 2 {
+        return false;
+    }
+    let size = get16(s, 0);
+    outside(size, 2, 66) || size as usize <= s.len() - 2
 }
 
 impl Feed {

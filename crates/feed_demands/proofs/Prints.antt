@@ -1,4 +1,4 @@
--- What joinfeed prints is what its join hands out, so that the demands speak of it.
+-- What is printed of a feed is what the join hands out, so that the demands speak of it.
 use Prim.Native.Nat.{ℕ, zero, suc, _+_, _≤_, _<_}
 use native.Mathlib.Omega.{arith}
 use mathlib.Core.Bool.{Bool, true, false, cond, _&&_, false≢true}
@@ -10,7 +10,7 @@ use Rattle.lists.proofs.FlatMap.{flatMap-append}
 use Rattle.lists.proofs.Keep.{keep-all}
 use Rattle.pairing.specs.declared.Entry.{Entry}
 use Rattle.pairing.specs.declared.Pair.{Pair}
-use Rattle.pairing.specs.declared.Rule.the-variants.{Equal}
+use Rattle.pairing.specs.declared.Rule.{Rule}
 use Rattle.pairing.specs.declared.Side.{Side}
 use Rattle.pairing.specs.declared.Side.the-variants.{A, B}
 use Rattle.pairing.specs.Plain.{plain}
@@ -131,9 +131,9 @@ ready-closed Closed Closed e p = refl
 none-waits : (s : State) → bothClosed s ≡ true → readyOf s ≡ [] → waitingIn s ≡ []
 none-waits s closed none = sym (keep-all (readyIn s) (waitingIn s) (all-any (λ (p : Pair). readyIn s p ≡ true) (ready-closed (s .join .a .journal .gate) (s .join .b .journal .gate) closed) (waitingIn s))) ∙ none
 
-fresh-none : readyNow (begin Equal) ≡ []
+fresh-none : (rule : Rule) → readyNow (begin rule) ≡ []
 unfolding freshState stateOf
-fresh-none = refl
+fresh-none rule = refl
 
 -- a last line begins with `done` where the feed ends with both closed, and nowhere else
 says-done : (stop : Stop) (p : Progress) → IsPrefix doneWord (lastLine stop p) → (stop ≡ FeedEnds) × (bothClosed (p .state) ≡ true)
@@ -149,29 +149,29 @@ done-line : (w : World) (n : ℕ) → bothClosed (w .state) ≡ true → endLine
 unfolding endLine
 done-line w n closed = rw closed
 
--- For every feed and every limit.
-pub prints : (limit : ℕ) (feed : List ℕ) → Prints limit feed
+-- For every rule, feed and limit.
+pub prints : (rule : Rule) (limit : ℕ) (feed : List ℕ) → Prints rule limit feed
 unfolding printed recordsOf courseOf flatMap
-prints limit feed =
-    let c : Course = courseOf limit feed in
-    let w = worldOf c in
-    let t : Tells 0 (begin Equal) (printed limit feed) (recordsOf limit feed) c = tells (suc (length (take limit feed))) 0 (begin Equal) (sound-fresh Equal) fresh-none (take limit feed) (omega arith) in
+prints rule limit feed =
+    let c : Course = courseOf rule limit feed in
+    let w = worldOf rule c in
+    let t : Tells 0 (begin rule) (printed rule limit feed) (recordsOf limit feed) c = tells (suc (length (take limit feed))) 0 (begin rule) (sound-fresh rule) (fresh-none rule) (take limit feed) (omega arith) in
     let none : 0 + length (c .accepted) ≡ length (c .accepted) = omega arith in
     let handed = t .lines ∙ ap (λ (n : ℕ). pairLines (w .out) ++ lastLine (c .stop) (standing n w)) none in
     record {
       handed = handed;
       accepted = (t .first, t .all);
       entries = (t .entries A, t .entries B);
-      stretch = λ more. demands Equal (c .calls) more .firstStretch;
-      noneKeptBack = λ more. sym (append-nil (w .out)) ∙ ap (λ (ps : List Pair). w .out ++ ps) (sym (t .none)) ∙ demands Equal (c .calls) more .belowClocks;
+      stretch = λ more. demands rule (c .calls) more .firstStretch;
+      noneKeptBack = λ more. sym (append-nil (w .out)) ∙ ap (λ (ps : List Pair). w .out ++ ps) (sym (t .none)) ∙ demands rule (c .calls) more .belowClocks;
       doneWhole = λ said.
           let s = says-done (c .stop) (standing (length (c .accepted)) w) said in
-          let whole : w .out ≡ plainIn (c .accepted) =
-          demands Equal (c .calls) [] .whole (s .1) (none-waits (w .state) (s .1) (t .none))
-          ∙ ap (λ (calls : List Call). plainOf Equal (ran Equal calls)) (append-nil (c .calls))
-          ∙ ap₂ (λ (a b : List Entry). plain Equal a b) (t .entries A) (t .entries B) in
+          let whole : w .out ≡ plainIn rule (c .accepted) =
+          demands rule (c .calls) [] .whole (s .1) (none-waits (w .state) (s .1) (t .none))
+          ∙ ap (λ (calls : List Call). plainOf rule (ran rule calls)) (append-nil (c .calls))
+          ∙ ap₂ (λ (a b : List Entry). plain rule a b) (t .entries A) (t .entries B) in
           handed
           ∙ ap (λ (stop : Stop). pairLines (w .out) ++ lastLine stop (standing (length (c .accepted)) w)) (s .0)
           ∙ ap (λ (l : List ℕ). pairLines (w .out) ++ l) (done-line w (length (c .accepted)) (s .1))
-          ∙ ap₂ (λ (ps : List Pair) (n : ℕ). pairLines ps ++ (doneWord ++ line (n ∷ length ps ∷ []))) (whole ∙ ap plainIn (t .all (s .0))) (ap length (t .all (s .0)));
+          ∙ ap₂ (λ (ps : List Pair) (n : ℕ). pairLines ps ++ (doneWord ++ line (n ∷ length ps ∷ []))) (whole ∙ ap (plainIn rule) (t .all (s .0))) (ap length (t .all (s .0)));
     }

@@ -1,8 +1,8 @@
--- A run of joinfeed as calls made of a join: which records it accepts, which calls it makes, and why it stops.
+-- A run over a feed, as joinfeed's, as calls made of a join: which records it accepts, which calls it makes, and why it stops.
 use Prim.Native.Nat.{ℕ, zero, suc}
 use mathlib.Core.List.{List, [], _∷_, _++_}
 use lib.ListN.{length, take, drop, replicate}
-use Rattle.pairing.specs.declared.Rule.the-variants.{Equal}
+use Rattle.pairing.specs.declared.Rule.{Rule}
 use Rattle.journal.specs.declared.Answer.{Answer}
 use Rattle.journal.specs.declared.Answer.the-variants.{Accepted, Refused}
 use Rattle.demands.specs.History.{Call, Enter, Mark, Close, Take, World, begin, run}
@@ -60,5 +60,5 @@ courseFrom zero w rest = stops [] FeedEnds
 courseFrom (suc n) w rest = courseAt (courseFrom n) w rest (reading rest 0)
 
 -- Every record has a byte, so the feed has fewer records than it has bytes and one.
-unfoldable pub courseOf : ℕ → List ℕ → Course
-courseOf limit feed = courseFrom (suc (length (take limit feed))) (begin Equal) (take limit feed)
+unfoldable pub courseOf : Rule → ℕ → List ℕ → Course
+courseOf rule limit feed = courseFrom (suc (length (take limit feed))) (begin rule) (take limit feed)

@@ -4,7 +4,7 @@ use mathlib.Core.List.{List, [], _∷_, _++_}
 use lib.ListN.{length, take, drop}
 use Rattle.pairing.specs.declared.Entry.{Entry}
 use Rattle.pairing.specs.declared.Pair.{Pair}
-use Rattle.pairing.specs.declared.Rule.the-variants.{Equal}
+use Rattle.pairing.specs.declared.Rule.{Rule}
 use Rattle.pairing.specs.declared.Side.{Side}
 use Rattle.pairing.specs.declared.Side.the-variants.{A, B}
 use Rattle.pairing.specs.Plain.{plain}
@@ -42,6 +42,6 @@ abbrev pub entriesIn : Side → List Record → List Entry
 entriesIn side [] = []
 entriesIn side (found ∷ rest) = entryIn side found ++ entriesIn side rest
 
--- their plain list, by equal keys
-abbrev pub plainIn : List Record → List Pair
-plainIn records = plain Equal (entriesIn A records) (entriesIn B records)
+-- their plain list
+abbrev pub plainIn : Rule → List Record → List Pair
+plainIn rule records = plain rule (entriesIn A records) (entriesIn B records)

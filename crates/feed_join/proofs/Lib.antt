@@ -1,3 +1,4 @@
+pub mod Fresh
 pub mod Heard
 pub mod Lines
 pub mod Moves

@@ -3,10 +3,10 @@ use Prim.Native.Nat.{ℕ, _≤_, _<_}
 use native.Mathlib.Omega.{arith}
 use mathlib.Core.Bool.{Bool, true, false, cond, _||_, true≢false}
 use mathlib.Core.List.{List}
-use mathlib.Core.Path.{_≡_, refl, sym, subst}
+use mathlib.Core.Path.{_≡_, refl, sym, subst, _∙_}
 use lib.Dec.{leb}
 use lib.ListN.{length, length-take, length-drop, length-append}
-use borrow.Author.Tests.{leb-false}
+use borrow.Author.Tests.{leb-true, leb-false}
 use Rattle.lists.specs.Put.{put}
 use Rattle.journal.specs.declared.Answer.{Answer}
 use Rattle.journal.specs.declared.Answer.the-variants.{Accepted, Refused}
@@ -14,7 +14,8 @@ use Rattle.join.specs.State.{State}
 use Rattle.join.specs.Calls.{readyOf}
 use Rattle.feed.specs.declared.Reading.{Reading}
 use Rattle.feed.specs.declared.Reading.the-variants.{Found, Refused as refusedReading, End}
-use Rattle.feed.specs.Reading.{reading}
+use Rattle.feed.specs.Reading.{reading, shows}
+use Rattle.feed.proofs.Locality.{long-shows}
 use Rattle.feed.proofs.Readings.{found-ends}
 use Rattle.feed_join.specs.declared.Went.the-variants.{More, On, Ended}
 use Rattle.feed_join.specs.Printed.{Progress, pairLines, endLine, refusedLine, heard, Ends, Goes, onward, answered, deed}
@@ -36,13 +37,13 @@ put-fits : (lines out : List ℕ) → length (put 0 lines out) ≡ length out �
 unfolding put
 put-fits lines out e = let long = simp (length-append, length-take, length-drop) at e in omega arith
 
-on-is-not-more : {P : Type 0} → On ≡ More → P
+pub on-is-not-more : {P : Type 0} → On ≡ More → P
 on-is-not-more e = absurd (let z : _≡_ {A = ℕ} 0 1 = cc in omega arith)
 
-ended-is-not-more : {P : Type 0} → Ended ≡ More → P
+pub ended-is-not-more : {P : Type 0} → Ended ≡ More → P
 ended-is-not-more e = absurd (let z : _≡_ {A = ℕ} 0 1 = cc in omega arith)
 
-ended-is-not-on : {P : Type 0} → Ended ≡ On → P
+pub ended-is-not-on : {P : Type 0} → Ended ≡ On → P
 ended-is-not-on e = absurd (let z : _≡_ {A = ℕ} 0 1 = cc in omega arith)
 
 more-is-not-on : {P : Type 0} → More ≡ On → P
@@ -75,10 +76,10 @@ module _ (p : Progress) (left : ℕ) (window : List ℕ) (ended : Bool) (out : L
   unfolding tells
   short e = go ended (leb left (length window)) (leb 68 (length window)) refl e
     where
-      go : (x y z : Bool) → leb 68 (length window) ≡ z → x || (y || z) ≡ false → (x ≡ false) × (length window < 68)
+      go : (x y z : Bool) → leb 68 (length window) ≡ z → x || (y || shows window) ≡ false → (x ≡ false) × (length window < 68)
       go true y z h f = absurd (true≢false f)
       go false true z h f = absurd (true≢false f)
-      go false false true h f = absurd (true≢false f)
+      go false false true h f = absurd (true≢false (sym (long-shows window (leb-true 68 (length window) h)) ∙ f))
       go false false false h f = (refl, leb-false 68 (length window) h)
 
   moves-stepped : Moves left window ended out (stepped p left window ended out)

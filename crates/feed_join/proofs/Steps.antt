@@ -12,7 +12,7 @@ use borrow.Author.Tests.{leb-true, leb-false}
 use Rattle.lists.specs.Put.{put}
 use Rattle.lists.proofs.Keep.{keep-length}
 use Rattle.lists.proofs.Store.{content-length}
-use Rattle.pairing.specs.declared.Rule.the-variants.{Equal}
+use Rattle.pairing.specs.declared.Rule.{Rule}
 use Rattle.pairing.specs.Numbers.{pairNumbers, pairIn}
 use Rattle.journal.specs.declared.Answer.{Answer}
 use Rattle.journal.specs.declared.Answer.the-variants.{Accepted, Refused}
@@ -33,8 +33,8 @@ use Rattle.feed_join.specs.Step.{Effect, shown, tells, effectOf, waits, 
 use Rattle.feed_join.proofs.Heard.{heard-kept}
 
 -- a run that has begun, with all of a limit left
-pub kept-begun : (limit : ℕ) → limit ≤ readLimit → Kept begun limit
-kept-begun limit few = record { sound = sound-fresh Equal; few-records = omega arith; few-pairs = omega arith }
+pub kept-begun : (rule : Rule) (limit : ℕ) → limit ≤ readLimit → Kept (begun rule) limit
+kept-begun rule limit few = record { sound = sound-fresh rule; few-records = omega arith; few-pairs = omega arith }
 
 -- no more are ready than wait
 pub ready-count : (s : State) → queue.Holds (s .join .queue) (s .rows) → (length (readyOf s) ≤ s .join .queue .count) × (s .join .queue .count ≤ queue.places)

@@ -6,19 +6,20 @@ use mathlib.Core.List.{List, [], _∷_, _++_, append-assoc, append-nil, IsPrefix
 use mathlib.Core.Path.{_≡_, refl, sym, ap, _∙_}
 use lib.Dec.{leb}
 use lib.ListN.{length, take, drop, length-take, length-drop}
-use lib.Seq.{take-all, take-take, length-take-le}
-use borrow.Author.Tests.{leb-true, leb-false, le-leb}
+use lib.Seq.{take-all, take-take, take-length, length-take-le}
+use borrow.Author.Tests.{leb-true, leb-false}
 use Rattle.lists.specs.Judge.{allOf}
 use Rattle.lists.proofs.Bools.{and-left, and-right}
+use Rattle.pairing.specs.declared.Rule.{Rule}
 use Rattle.journal.specs.declared.Answer.{Answer}
 use Rattle.journal.specs.declared.Answer.the-variants.{Accepted, Refused}
 use Rattle.join.specs.State.{State}
 use Rattle.join.specs.Calls.{readyOf}
 use Rattle.feed.specs.declared.Reading.{Reading}
 use Rattle.feed.specs.declared.Reading.the-variants.{Found, Refused as refusedReading, End}
-use Rattle.feed.specs.Reading.{reading, readingFrom}
-use Rattle.feed.proofs.Fields.{drop-take}
-use Rattle.feed.proofs.Locality.{reading-local}
+use Rattle.feed.specs.Reading.{shows, reading, readingFrom}
+use Rattle.feed.proofs.Fields.{drop-first}
+use Rattle.feed.proofs.Locality.{shows-elim, long-shows, reading-shown}
 use Rattle.feed.proofs.Readings.{found-ends}
 use Rattle.feed_join.specs.Printed.{Progress, begun, pairLines, endLine, refusedLine, heard, Ends, Goes, onward, answered, deed, continued, printedFrom, printed}
 use Rattle.feed_join.specs.Step.{shown, tells}
@@ -31,33 +32,31 @@ or-elim true y e f g = f refl
 or-elim false y e f g = g e
 
 module _ (left : ℕ) (w : Window) (input : List ℕ) where
-  same-68 : tells left (bytesIn w input) (endsIn w input) ≡ true → take 68 (shown left (bytesIn w input)) ≡ take 68 (take left input)
+  abbrev bs : List ℕ
+  bs = bytesIn w input
+
+  -- it shows all that is left
+  all-left : left ≤ length bs → shown left bs ≡ take left input
+  all-left few = take-take left (w .size) input (omega (arith, length-take (w .size) input))
+
+  -- it shows the record's own bytes
+  own-bytes : shows bs ≡ true → length bs ≤ left → reading (shown left bs) 0 ≡ reading (take left input) 0
+  unfolding reading
+  own-bytes h few =
+      let n = length bs in
+      let first : take n (take left input) ≡ bs = take-take n left input few ∙ sym (take-take n (w .size) input (omega (arith, length-take (w .size) input))) ∙ take-length bs in
+      ap (readingFrom 0) (take-all left bs few ∙ sym first) ∙ reading-shown n (take left input) (shows-elim (take n (take left input)) (ap shows first ∙ h)) 0
+
+  shows-first : tells left bs (endsIn w input) ≡ true → reading (shown left bs) 0 ≡ reading (take left input) 0
   unfolding tells
-  same-68 e =
-      or-elim (endsIn w input) (leb left (length (bytesIn w input)) || leb 68 (length (bytesIn w input))) e
-      (λ ended. ap (λ (l : List ℕ). take 68 (take left l)) (take-all (w .size) input (leb-true (length input) (w .size) (and-right (w .knows) _ ended))))
-      (λ more.
-      or-elim (leb left (length (bytesIn w input))) (leb 68 (length (bytesIn w input))) more
-      (λ limit. all-left (let h = leb-true left (length (take (w .size) input)) limit in omega (arith, length-take (w .size) input)))
-      (λ long. wide-enough (let h = leb-true 68 (length (take (w .size) input)) long in omega (arith, length-take (w .size) input)) (leb 68 left) refl))
+  shows-first e =
+      or-elim (endsIn w input) (leb left (length bs) || shows bs) e
+      (λ ended. ap (λ (l : List ℕ). reading (take left l) 0) (take-all (w .size) input (leb-true (length input) (w .size) (and-right (w .knows) _ ended))))
+      (λ more. go (leb left (length bs)) refl more)
     where
-      all-left : left ≤ w .size → take 68 (take left (take (w .size) input)) ≡ take 68 (take left input)
-      all-left few = ap (take 68) (take-take left (w .size) input few)
-
-      wide-enough : 68 ≤ w .size → (b : Bool) → leb 68 left ≡ b → take 68 (take left (take (w .size) input)) ≡ take 68 (take left input)
-      wide-enough size true h =
-          let long = leb-true 68 left h in
-          take-take 68 left (take (w .size) input) long ∙ take-take 68 (w .size) input size ∙ sym (take-take 68 left input long)
-      wide-enough size false h = all-left (let short = leb-false 68 left h in omega arith)
-
-  shows : tells left (bytesIn w input) (endsIn w input) ≡ true → reading (shown left (bytesIn w input)) 0 ≡ reading (take left input) 0
-  shows e = reading-local (shown left (bytesIn w input)) 0 ∙ ap (readingFrom 0) (same-68 e) ∙ sym (reading-local (take left input) 0)
-
--- what is left of the feed behind a record is what is left of the input behind it, up to what is left of the limit
-rest-behind : (next left : ℕ) (input : List ℕ) → next ≤ left → drop next (take left input) ≡ take (left - next) (drop next input)
-rest-behind next left input h =
-    let split : left ≡ next + (left - next) = omega arith in
-    ap (λ (n : ℕ). drop next (take n input)) split ∙ drop-take next (left - next) input
+      go : (b : Bool) → leb left (length bs) ≡ b → b || shows bs ≡ true → reading (shown left bs) 0 ≡ reading (take left input) 0
+      go true h more = ap (λ (l : List ℕ). reading l 0) (all-left (leb-true left (length bs) h))
+      go false h more = own-bytes more (let few = leb-false left (length bs) h in omega arith)
 
 -- ---- the pieces of a run
 
@@ -78,7 +77,7 @@ module _ (ws : List Window) (n : ℕ) (again : (q : Progress) (left : ℕ) (inpu
     accepted : (lines : List ℕ) (next : ℕ) (q : Progress) → (4 ≤ next) × (next ≤ length (take left input)) → GoesWith (runOn (runFrom ws) left input (Goes lines next q)) (continued (printedFrom n) (take left input) (Goes lines next q))
     accepted lines next q h =
         let within : next ≤ left = omega (arith, length-take left input) in
-        let e = rest-behind next left input within in
+        let e = drop-first next left input within in
         let fewer : length (take (left - next) (drop next input)) < n = rw (sym e) (simp length-drop (omega arith)) in
         behind lines (runFrom ws q (left - next) (drop next input)) (printedFrom n q (drop next (take left input))) (rw e (again q (left - next) (drop next input) fewer))
 
@@ -105,7 +104,7 @@ run-goes (w ∷ ws) (suc n) p left input few = go (tells left (bytesIn w input) 
         → GoesWith (runOn (runFrom ws) left input (deed p (reading (take left input) 0))) (continued (printedFrom n) (take left input) (deed p (reading (take left input) 0)))
         → GoesWith (runFrom ws p left input) (continued (printedFrom n) (take left input) (deed p (reading (take left input) 0)))
         → GoesWith (cond b (runOn (runFrom ws) left input (deed p (reading (shown left (bytesIn w input)) 0))) (runFrom ws p left input)) (continued (printedFrom n) (take left input) (deed p (reading (take left input) 0)))
-    go true e told waits = rw (shows left w input e) told
+    go true e told waits = rw (shows-first left w input e) told
     go false e told waits = waits
 
 -- ---- wide windows bring the last line out
@@ -118,12 +117,12 @@ module _ (left : ℕ) (w : Window) (input : List ℕ) where
       long : 68 ≤ w .size
       long = leb-true 68 (w .size) (and-left (leb 68 (w .size)) (w .knows) e)
 
-      go : (b : Bool) → leb (length input) (w .size) ≡ b → (w .knows && b) || (leb left (length (take (w .size) input)) || leb 68 (length (take (w .size) input))) ≡ true
+      go : (b : Bool) → leb (length input) (w .size) ≡ b → (w .knows && b) || (leb left (length (take (w .size) input)) || shows (take (w .size) input)) ≡ true
       go true h = rw (and-right (leb 68 (w .size)) (w .knows) e)
       go false h =
           let more = leb-false (length input) (w .size) h in
           let full : length (take (w .size) input) ≡ w .size = length-take-le (w .size) input (omega arith) in
-          rw (and-false (w .knows), le-leb 68 (length (take (w .size) input)) (omega (arith, long))) (or-true (leb left (length (take (w .size) input))))
+          rw (and-false (w .knows), long-shows (take (w .size) input) (omega (arith, long))) (or-true (leb left (length (take (w .size) input))))
 
 -- each uses a record, and a record has a byte
 module _ (ws : List Window) (again : allOf wide ws ≡ true → (q : Progress) (left : ℕ) (input : List ℕ) → length (take left input) < length ws → runFrom ws q left input .finished ≡ true) where
@@ -136,7 +135,7 @@ module _ (ws : List Window) (again : allOf wide ws ≡ true → (q : Progress) (
       go Accepted s =
           let h = found-ends (take left input) 0 at in
           let within : next ≤ left = omega (arith, length-take left input) in
-          again e (onward p s) (left - next) (drop next input) (rw (sym (rest-behind next left input within)) (simp length-drop (omega arith)))
+          again e (onward p s) (left - next) (drop next input) (rw (sym (drop-first next left input within)) (simp length-drop (omega arith)))
       go (Refused number) s = refl
   deed-ends e p left input few (refusedReading number place) at = refl
   deed-ends e p left input few End at = refl
@@ -145,11 +144,11 @@ run-ends : (ws : List Window) → allOf wide ws ≡ true → (p : Progress) (lef
 run-ends [] e p left input few = absurd (let none : length (take left input) < 0 = few in omega arith)
 run-ends (w ∷ ws) e p left input few =
     let tells-all = wide-tells left w input (and-left (wide w) (allOf wide ws) e) in
-    rw (tells-all, shows left w input tells-all) (deed-ends ws (run-ends ws) (and-right (wide w) (allOf wide ws) e) p left input few (reading (take left input) 0) refl)
+    rw (tells-all, shows-first left w input tells-all) (deed-ends ws (run-ends ws) (and-right (wide w) (allOf wide ws) e) p left input few (reading (take left input) 0) refl)
 
--- For every feed, every limit and any windows.
-pub pieces : (limit : ℕ) (input : List ℕ) (ws : List Window) → Pieces limit input ws
+-- For every rule, feed and limit, and any windows.
+pub pieces : (rule : Rule) (limit : ℕ) (input : List ℕ) (ws : List Window) → Pieces rule limit input ws
 unfolding printed
-pieces limit input ws =
-    let goes = run-goes ws (suc (length (take limit input))) begun limit input (omega arith) in
-    record { stretch = goes .stretch; all = goes .all; ends = λ e few. run-ends ws e begun limit input (omega (arith, length-take limit input)) }
+pieces rule limit input ws =
+    let goes = run-goes ws (suc (length (take limit input))) (begun rule) limit input (omega arith) in
+    record { stretch = goes .stretch; all = goes .all; ends = λ e few. run-ends ws e (begun rule) limit input (omega (arith, length-take limit input)) }

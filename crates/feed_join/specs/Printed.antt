@@ -4,7 +4,7 @@ use mathlib.Core.Bool.{cond}
 use mathlib.Core.List.{List, [], _∷_, _++_, flatMap}
 use lib.ListN.{length, take, drop}
 use Rattle.pairing.specs.declared.Pair.{Pair}
-use Rattle.pairing.specs.declared.Rule.the-variants.{Equal}
+use Rattle.pairing.specs.declared.Rule.{Rule}
 use Rattle.pairing.specs.Numbers.{pairNumbers}
 use Rattle.journal.specs.declared.Answer.{Answer}
 use Rattle.journal.specs.declared.Answer.the-variants.{Accepted, Refused}
@@ -23,9 +23,9 @@ pub record Progress : Type 0 where
   pub records : ℕ
   pub pairs : ℕ
 
--- It joins by equal keys.
-abbrev pub begun : Progress
-begun = record { state = freshState Equal; records = 0; pairs = 0 }
+-- at the start, by a rule; joinfeed joins by equal keys
+abbrev pub begun : Rule → Progress
+begun rule = record { state = freshState rule; records = 0; pairs = 0 }
 
 -- ---- lines
 
@@ -100,8 +100,8 @@ printedFrom zero p rest = []
 printedFrom (suc n) p rest = continued (printedFrom n) rest (deed p (reading rest 0))
 
 -- Bytes beyond the limit are not read, and the feed counts as ending there. Every record has a byte, so the feed has fewer records than it has bytes and one.
-unfoldable pub printed : ℕ → List ℕ → List ℕ
-printed limit feed = printedFrom (suc (length (take limit feed))) begun (take limit feed)
+unfoldable pub printed : Rule → ℕ → List ℕ → List ℕ
+printed rule limit feed = printedFrom (suc (length (take limit feed))) (begun rule) (take limit feed)
 
 -- The limit of joinfeed.
 abbrev pub readLimit : ℕ

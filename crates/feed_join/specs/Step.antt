@@ -8,7 +8,7 @@ use Rattle.lists.specs.Put.{put}
 use Rattle.lists.specs.Store.{Rows}
 use Rattle.join.specs.declared.Join.{Join}
 use Rattle.join.specs.State.{Sound, stateWith}
-use Rattle.feed.specs.Reading.{reading}
+use Rattle.feed.specs.Reading.{reading, shows}
 use Rattle.feed_join.specs.declared.Counts.{Counts}
 use Rattle.feed_join.specs.declared.Stepped.{Stepped}
 use Rattle.feed_join.specs.declared.Went.{Went}
@@ -19,9 +19,9 @@ use Rattle.feed_join.specs.Printed.{Progress, Deed, Ends, Goes, deed, re
 abbrev pub shown : ℕ → List ℕ → List ℕ
 shown left window = take left window
 
--- It shows all that is left, as the input ends behind it or the limit stands in it; or 68 bytes, which hold any record. With less, a record may go on behind it.
+-- It shows all that is left, as the input ends behind it or the limit stands in it; or all of the record that stands first in it. With less, a record may go on behind it.
 unfoldable pub tells : ℕ → List ℕ → Bool → Bool
-tells left window ended = ended || (leb left (length window) || leb 68 (length window))
+tells left window ended = ended || (leb left (length window) || shows window)
 
 -- what a step leaves
 pub record Effect : Type 0 where

@@ -6,6 +6,7 @@ use mathlib.Core.Path.{_≡_}
 use lib.Dec.{leb}
 use lib.ListN.{length, take, drop}
 use Rattle.lists.specs.Judge.{allOf}
+use Rattle.pairing.specs.declared.Rule.{Rule}
 use Rattle.feed.specs.Reading.{reading}
 use Rattle.feed_join.specs.Printed.{Progress, begun, Deed, Ends, Goes, deed, printed}
 use Rattle.feed_join.specs.Step.{shown, tells}
@@ -41,17 +42,17 @@ runFrom (w ∷ ws) p left input =
     (runOn (runFrom ws) left input (deed p (reading (shown left (bytesIn w input)) 0)))
     (runFrom ws p left input)
 
-abbrev pub run : List Window → ℕ → List ℕ → Run
-run ws limit input = runFrom ws begun limit input
+abbrev pub run : List Window → Rule → ℕ → List ℕ → Run
+run ws rule limit input = runFrom ws (begun rule) limit input
 
--- such windows never show too little
+-- such windows show any record, so they never show too little
 abbrev pub wide : Window → Bool
 wide w = leb 68 (w .size) && w .knows
 
-pub record Pieces (limit : ℕ) (input : List ℕ) (ws : List Window) : Type 0 where
+pub record Pieces (rule : Rule) (limit : ℕ) (input : List ℕ) (ws : List Window) : Type 0 where
   -- what was put out is a first stretch of what must be printed
-  pub stretch : IsPrefix (run ws limit input .out) (printed limit input)
+  pub stretch : IsPrefix (run ws rule limit input .out) (printed rule limit input)
   -- and all of it, when the last line is out
-  pub all : run ws limit input .finished ≡ true → run ws limit input .out ≡ printed limit input
+  pub all : run ws rule limit input .finished ≡ true → run ws rule limit input .out ≡ printed rule limit input
   -- as many wide windows as the input has bytes, and one, bring the last line out
-  pub ends : allOf wide ws ≡ true → length input < length ws → run ws limit input .finished ≡ true
+  pub ends : allOf wide ws ≡ true → length input < length ws → run ws rule limit input .finished ≡ true

@@ -22,6 +22,9 @@ ghost use Rattle.lines.specs.Line.{line};
 ghost use Rattle.feed_join.specs.Printed.{refusedWord, pairLines, endLine, heard, onward, answered};
 ghost use Rattle.feed_join.specs.Step.{effectWith, effectOf, tells, stepped, progressWith, Kept, room};
 
+// How many bytes of a feed are read.
+pub const READ_LIMIT: u32 = 4294967295;
+
 // How many bytes a step may put out: the lines of 256 pairs.
 pub const ROOM: usize = 22528;
 
@@ -195,10 +198,11 @@ fn take_in(
 fn tells(left: usize, window: &[u8], ended: bool) -> bool
     ensures { λ r. ⌜ r ≡ tells left (now (window .entry)) ended ⌝ }
 {
-    ended || (left <= window.len() || 68 <= window.len())
+    // 68 bytes show any record: its length need not be looked at.
+    ended || (left <= window.len() || (68 <= window.len() || feed::shows(window)))
 }
 
-fn least(a: usize, b: usize) -> usize
+pub fn least(a: usize, b: usize) -> usize
     ensures { λ r. ⌜ r ≡ min a b ⌝ }
 {
     if a < b { a } else { b }

@@ -1,3 +1,2 @@
 pub mod Ending
-pub mod Fresh
 pub mod Parts

@@ -3,8 +3,10 @@ use feed_join::Counts;
 use feed_join::ROOM;
 use feed_join::Stepped;
 use feed_join::Went;
+use feed_join::least;
 use feed_join::step;
 use join::Join;
+use libc::STDERR_FILENO;
 use libc::STDIN_FILENO;
 use libc::STDOUT_FILENO;
 use pairing::Rule;
@@ -16,9 +18,6 @@ ghost use Prim.Native.Nat.{_+_, _-_, _≤_, _<_};
 ghost use lib.ListN.{length, take, drop};
 ghost use lib.Seq.{slice};
 ghost use Rattle.feed_join.specs.Step.{effectWith, stepped, progressWith, Kept, room};
-
-// How many bytes of the feed joinfeed reads.
-pub const READ_LIMIT: u32 = 4294967295;
 
 // Which bytes of the window are not used yet, and whether the input is known to end behind them.
 struct Unused {
@@ -40,15 +39,16 @@ fn move_front(window: &mut [u8], at: usize, end: usize)
     }
 }
 
-// What is not used moved to the front, and one read behind it. A read that fails counts as the end of the input.
-fn refill(window: &mut [u8], at: usize, end: usize) -> Unused
-    requires { ⌜ (at ≤ end) × (end ≤ length (now window)) ⌝ }
-    ensures { λ r. ⌜ (r .at ≡ 0) × (r .end ≤ length (now (window .exit))) × ((r .ended ≡ true) ⊎ (end - at < r .end)) ⌝ }
+// What is not used moved to the front, and one read behind it, which asks for no more than may still be read. A read that fails counts as the end of the input.
+fn refill(window: &mut [u8], at: usize, end: usize, left: usize) -> Unused
+    requires { ⌜ (at ≤ end) × (end ≤ length (now window)) × (end - at ≤ left) ⌝ }
+    ensures { λ r. ⌜ (r .at ≡ 0) × (r .end ≤ length (now (window .exit))) × (r .end ≤ left) × ((r .ended ≡ true) ⊎ (end - at < r .end)) ⌝ }
     ensures { λ _. ⌜ take (end - at) (now (window .exit)) ≡ slice at end (now (window .entry)) ⌝ }
 {
     move_front(window, at, end);
     let kept = end - at;
-    let part = &mut window[kept..];
+    let most = least(left, window.len());
+    let part = &mut window[kept..most];
     let got = libc::read(STDIN_FILENO, part);
     let more = io::count(got, part);
     Unused {
@@ -56,6 +56,19 @@ fn refill(window: &mut [u8], at: usize, end: usize) -> Unused
         end: kept + more,
         ended: more == 0,
     }
+}
+
+// Where a feed stopped that did not end in `done`, for standard error: the number of the record that comes next, the byte at which it begins, and the last line again.
+fn tell_place(records: u32, byte: usize, last: &[u8]) {
+    if last.len() == 0 || last[0] == b'd' {
+        return;
+    }
+    io::write_all(STDERR_FILENO, b"record ");
+    io::print_decimal(STDERR_FILENO, records as u64 + 1);
+    io::write_all(STDERR_FILENO, b" byte ");
+    io::print_decimal(STDERR_FILENO, byte as u64);
+    io::write_all(STDERR_FILENO, b": ");
+    io::write_all(STDERR_FILENO, last);
 }
 
 // A buffer that has no room for another step is written. Answers how much of it is filled then.
@@ -96,7 +109,7 @@ fn step_on(
     step(join, a, b, rows, counts, left, shown, unused.ended, free)
 }
 
-// Joins the feed that standard input is, as far as its first bytes, up to the limit.
+// Joins the feed that standard input is, up to the limit.
 pub fn join_input(limit: u32) {
     let mut a = area::no_places();
     let mut b = area::no_places();
@@ -116,7 +129,7 @@ pub fn join_input(limit: u32) {
     let mut out = io::large_buffer();
     let mut filled = 0;
     loop {
-        filled = make_room(&out, filled);
+        let from = make_room(&out, filled);
         let stepped = step_on(
             join,
             &mut a,
@@ -127,76 +140,27 @@ pub fn join_input(limit: u32) {
             &window,
             unused,
             &mut out,
-            filled,
+            from,
         );
         join = stepped.join;
         counts = stepped.counts;
         left -= stepped.used;
-        filled += stepped.filled;
+        filled = from + stepped.filled;
         unused.at += stepped.used;
         let went = stepped.went;
         match went {
             Went::More => {
-                unused = refill(&mut window, unused.at, unused.end);
+                // It waits for input with nothing left to write.
+                io::write_all(STDOUT_FILENO, &out[..filled]);
+                filled = 0;
+                unused = refill(&mut window, unused.at, unused.end, left);
             }
             Went::On => {}
             Went::Ended => {
                 io::write_all(STDOUT_FILENO, &out[..filled]);
+                tell_place(counts.records, limit as usize - left, &out[from..filled]);
                 return;
             }
         }
-    }
-}
-
-// The place behind so many bytes from a place on, or behind all of them.
-fn window_end(at: usize, size: usize, all: usize) -> usize
-    requires { ⌜ at ≤ all ⌝ }
-    ensures { λ r. ⌜ (at ≤ r) × (r ≤ all) × (r ≤ at + size) ⌝ }
-{
-    if all - at < size { all } else { at + size }
-}
-
-// Joins a feed that is at hand, through windows of so many bytes. That a window is the last one shows by the limit alone, which is the feed's length.
-pub fn join_bytes(feed: &[u8], size: usize) {
-    let all = window_end(0, READ_LIMIT as usize, feed.len());
-    let mut a = area::no_places();
-    let mut b = area::no_places();
-    let mut rows = queue::no_places();
-    let mut join = Join::fresh(Rule::Equal);
-    let mut counts = Counts {
-        records: 0,
-        pairs: 0,
-    };
-    let mut at = 0;
-    let mut out = io::large_buffer();
-    let mut filled = 0;
-    loop {
-        filled = make_room(&out, filled);
-        let end = window_end(at, size, all);
-        let stepped = step_on(
-            join,
-            &mut a,
-            &mut b,
-            &mut rows,
-            counts,
-            all - at,
-            feed,
-            Unused {
-                at,
-                end,
-                ended: false,
-            },
-            &mut out,
-            filled,
-        );
-        join = stepped.join;
-        counts = stepped.counts;
-        at += stepped.used;
-        filled += stepped.filled;
-        let went = stepped.went;
-        let Went::On = went else {
-            io::write_all(STDOUT_FILENO, &out[..filled]);
-            return;
-        };
     }
 }

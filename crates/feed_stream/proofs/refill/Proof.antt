@@ -25,6 +25,9 @@ move-front-requires c κs = search needs
 sub-kept : tie.Need-sub-kept
 sub-kept c = search needs
 
+least-requires : tie.Need-least-requires
+least-requires c κs = search needs
+
 sub-part : tie.Need-sub-part
 sub-part c = search needs
 
@@ -40,25 +43,27 @@ read-requires c κs = search needs
 count-requires : tie.Need-count-requires
 count-requires c κs = search needs
 
-add-t12 : tie.Need-add-t12
-add-t12 c = search needs
+add-t13 : tie.Need-add-t13
+add-t13 c = search needs
 
 same-length : tie.Need-same-length
 same-length c = search needs
 
 returns : tie.Need-returns
 returns c =
-    let st = c .before .before .before .before .before .before .before .before .before .before .before .before .before .before in
+    let st = c .before .before .before .before .before .before .before .before .before .before .before .before .before .before .before in
     let a = st .args in
     let order = st .pre .0 in
     let within = st .pre .1 in
     let window = now (a .window) in
     let kept = a .end - a .at in
-    let moved = c .before .before .before .before .before .before .before .before .before .before .before .move-front in
+    let moved = c .before .before .before .before .before .before .before .before .before .before .before .before .move-front in
+    let least = c .before .before .before .before .before .before .before .before .before .least in
+    let most = least .ensures in
     let long : length (slice (a .at) (a .end) window) ≡ kept = simp (length-drop, length-take) (omega arith) in
     let same = moved-long (a .end) (a .at) window (moved .last .0) within order (moved .ensures) in (
-      (refl, search needs, some-or-none kept (c .before .before .count .result)),
-      take-put kept (length (moved .last .0) - kept) (moved .last .0) (c .before .before .before .before .before .before .read .last .1 .0) (omega arith) ∙ ap (take kept) (moved .ensures) ∙ take-at (slice (a .at) (a .end) window) (drop kept window) kept long,
+      (refl, search needs, search needs, some-or-none kept (c .before .before .count .result)),
+      take-put kept (least .result - kept) (moved .last .0) (c .before .before .before .before .before .before .read .last .1 .0) (omega arith) ∙ ap (take kept) (moved .ensures) ∙ take-at (slice (a .at) (a .end) window) (drop kept window) kept long,
     )
 
 pub refill-spec : {M : Type 1} → statement M
@@ -67,11 +72,12 @@ refill-spec =
     (tie.spec
     move-front-requires
     sub-kept
+    least-requires
     sub-part
     part-part-start
     part-part-end
     read-requires
     count-requires
-    add-t12
+    add-t13
     same-length
     returns)

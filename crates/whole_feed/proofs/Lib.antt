@@ -1,0 +1,3 @@
+pub mod Fitted
+pub mod Text
+pub mod Unique
