@@ -21,15 +21,11 @@ use Rattle.feed.specs.Number.{bytes}
 use Rattle.feed.specs.Kind.{Kind, entry, mark, close, pair, kindsOf, framed, packed, fieldsIn}
 use Rattle.feed.specs.Record.{recordIn, recordBytes, pairBytes, streamKnown}
 use Rattle.feed.specs.Reading.{lengthIn, kindIn, headOf, reading, pairReadingOf, pairReadingFrom, pairReading}
-use Rattle.feed.specs.Text.{textOf, textIn, textAt, stretch}
+use Rattle.feed.specs.Text.{textOf, textIn, textAt, stretch, textBytes}
 use Rattle.feed.proofs.Numbers.{Bytes, bytes-drop, bytes-value-take}
 use Rattle.feed.proofs.Fields.{total, packed-unpacked}
 use Rattle.feed.proofs.Heads.{Row, here, there, whole-elim, whole-row, whole-pair}
 use Rattle.feed.proofs.Readings.{found-elim}
-
--- the text at a place of a feed: nothing, unless a note stands there
-abbrev pub textBytes : List ℕ → ℕ → List ℕ
-textBytes s at = stretch s (textAt s at)
 
 -- framed bytes are those that were read
 framed-back : (kind size : ℕ) (bs : List ℕ) → Bytes bs → kind ≡ kindIn bs → size ≡ lengthIn bs → 2 ≤ size → 2 + size ≤ length bs → framed kind (take (size - 2) (drop 4 bs)) ≡ take (2 + size) bs

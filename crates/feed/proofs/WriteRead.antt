@@ -1,11 +1,11 @@
--- Written, then read: what is written is read back as the same record with the place after it, whatever else the buffer or the feed holds.
+-- Written, then read: what is written is read back as the same record with the place after it and the same text, whatever else the buffer or the feed holds.
 use Prim.Native.Nat.{ℕ, _+_, _-_, _^_, _≤_, _<_}
 use native.Mathlib.Omega.{arith}
 use mathlib.Core.Bool.{true}
 use mathlib.Core.List.{List, _++_}
-use mathlib.Core.Path.{_≡_, ap, _∙_}
-use lib.ListN.{length, length-append}
-use lib.Seq.{drop-append-seam}
+use mathlib.Core.Path.{_≡_, refl, sym, ap, _∙_}
+use lib.ListN.{length, take, drop, length-append}
+use lib.Seq.{drop-append-seam, drop-drop, take-at}
 use Rattle.pairing.specs.declared.Pair.{Pair}
 use Rattle.pairing.specs.Numbers.{pairNumbers, pairIn}
 use Rattle.pairing.proofs.Numbers.{pair-numbers}
@@ -14,12 +14,14 @@ use Rattle.feed.specs.declared.Feed.the-variants.{Input, Output}
 use Rattle.feed.specs.declared.Head.the-variants.{Whole}
 use Rattle.feed.specs.declared.Lengths.the-variants.{Within}
 use Rattle.feed.specs.declared.PairReading.the-variants.{Found as FoundPair}
+use Rattle.feed.specs.declared.Reading.{Reading}
 use Rattle.feed.specs.declared.Reading.the-variants.{Found}
 use Rattle.feed.specs.declared.Record.{Record}
 use Rattle.feed.specs.declared.Record.the-variants.{Entry as entryRecord, Mark, Close, Note}
 use Rattle.feed.specs.Kind.{entry, mark, close, pair, lengthsOf, framed, packed}
 use Rattle.feed.specs.Record.{entryFrom, markFrom, closeFrom, entryNumbers, markNumbers, closeNumbers, recordIn, recordBytes, pairBytes, streamKnown}
 use Rattle.feed.specs.Reading.{lengthIn, kindIn, outside, kindChecks, headUnless, headOf, foundAt, readingFrom, reading, pairReadingOf, pairReadingFrom, pairReading}
+use Rattle.feed.specs.Text.{textOf, textIn, textAt, stretch, carried, ReadsAs}
 use Rattle.feed.proofs.Numbers.{value-bytes}
 use Rattle.feed.proofs.Fields.{Room, unpacked-packed}
 use Rattle.feed.proofs.Heads.{inside-intro, lengths-entry, lengths-mark, lengths-close, lengths-note, lengths-pair, head-kind, kind-fit}
@@ -81,11 +83,24 @@ pair-reads p rest at fit =
     ∙ ap (λ (q : Pair). FoundPair q (at + 2 + 34)) (pair-numbers p)
     ∙ ap (FoundPair p) next
 
+-- the stretch of a feed in which the text of a record should stand holds the text that it carries, where the bytes of the record are those left at its place
+text-reads : (r : Record) (text rest s : List ℕ) (at : ℕ) → Fitting r text → drop at s ≡ recordBytes r text ++ rest → stretch s (textOf at r) ≡ carried r text
+unfolding recordBytes
+text-reads (entryRecord stream e) text rest s at fit here = refl
+text-reads (Mark stream time) text rest s at fit here = refl
+text-reads (Close stream) text rest s at fit here = refl
+text-reads (Note size) text rest s at fit here =
+    ap (take size) (sym (drop-drop 4 at s)) ∙ ap (λ (bs : List ℕ). take size (drop 4 bs)) here ∙ take-at text rest size (sym fit)
+
 -- wherever they stand in a feed
 pub record-reads-in : (r : Record) (text front rest : List ℕ) → Fitting r text → streamKnown r ≡ true → length text ≤ 64
-    → reading (front ++ (recordBytes r text ++ rest)) (length front) ≡ Found r (length front + length (recordBytes r text))
-unfolding reading
-record-reads-in r text front rest fit known short = rw (drop-append-seam front (recordBytes r text ++ rest)) (record-reads r text rest (length front) fit known short)
+    → ReadsAs (front ++ (recordBytes r text ++ rest)) (length front) r text (length front + length (recordBytes r text))
+unfolding reading textAt
+record-reads-in r text front rest fit known short =
+    let s = front ++ (recordBytes r text ++ rest) in
+    let here = drop-append-seam front (recordBytes r text ++ rest) in
+    let found : reading s (length front) ≡ Found r (length front + length (recordBytes r text)) = rw here (record-reads r text rest (length front) fit known short) in
+    record { found = found; textFound = ap (λ (answer : Reading). stretch s (textIn (length front) answer)) found ∙ text-reads r text rest s (length front) fit here }
 
 pub pair-reads-in : (p : Pair) (front rest : List ℕ) → Room (pair .fields) (pairNumbers p)
     → pairReading (front ++ (pairBytes p ++ rest)) (length front) ≡ FoundPair p (length front + length (pairBytes p))

@@ -20,35 +20,35 @@ use Rattle.feed_write.specs.declared.Writing.the-variants.{Written, Refu
 use Rattle.feed.specs.Kind.{pair}
 use Rattle.feed.specs.Record.{recordBytes, pairBytes, streamKnown}
 use Rattle.feed.specs.Reading.{reading, pairReading}
+use Rattle.feed.specs.Text.{textBytes, ReadsAs}
 use Rattle.feed_write.specs.Writing.{writing, recordWriting, pairWriting}
 use Rattle.lists.proofs.Put.{put-first}
 use Rattle.feed.proofs.Numbers.{Bytes}
 use Rattle.feed.proofs.Fields.{Room}
 use Rattle.feed_write.proofs.Writings.{record-written, pair-written}
 use Rattle.feed.proofs.WriteRead.{Fitting, record-reads-in, pair-reads-in}
-use Rattle.feed.proofs.ReadWrite.{textBytes, record-back, pair-back, found-stream, text-short, found-length, pair-found-length}
+use Rattle.feed.proofs.ReadWrite.{record-back, pair-back, found-stream, text-short, found-length, pair-found-length}
 
--- ---- written, then read: what a writing left in the buffer is read back from its start, with the place after it
+-- ---- written, then read: what a writing left in the buffer is read back from its start, with the place after it and its text
 
 not-written : {number size : ℕ} {buf left : List ℕ} → _≡_ {A = Writing × List ℕ} (Refused number, buf) (Written size, left) → ⊥
 not-written e = let f = ap (λ (x : Writing × List ℕ). x .0) e in let z : _≡_ {A = ℕ} 0 1 = cc in omega arith
 
-pub written-reads : (r : Record) (text buf : List ℕ) {size : ℕ} {left : List ℕ} → Fitting r text → recordWriting r text buf ≡ (Written size, left) → reading left 0 ≡ Found r size
+pub written-reads : (r : Record) (text buf : List ℕ) {size : ℕ} {left : List ℕ} → Fitting r text → recordWriting r text buf ≡ (Written size, left) → ReadsAs left 0 r text size
 unfolding recordWriting writing
 written-reads r text buf {size} {left} fit h = go (streamKnown r) (ltb 64 (length text)) (ltb (length buf) (length (recordBytes r text))) refl refl h
   where
     go : (known long short : Bool) → streamKnown r ≡ known → ltb 64 (length text) ≡ long
         → _≡_ {A = Writing × List ℕ} (firstOr (λ (number : ℕ). (Refused number, buf)) (Written (length (recordBytes r text)), recordBytes r text ++ drop (length (recordBytes r text)) buf) ((not known gives 1) ∷ (long gives 10) ∷ (short gives 12) ∷ [])) (Written size, left)
-        → reading left 0 ≡ Found r size
+        → ReadsAs left 0 r text size
     go false long short k l e = absurd (not-written e)
     go true true short k l e = absurd (not-written e)
     go true false true k l e = absurd (not-written e)
     go true false false k l e =
         let answer : Written (length (recordBytes r text)) ≡ Written size = ap (λ (x : Writing × List ℕ). x .0) e in
         let same : length (recordBytes r text) ≡ size = cc in
-        ap (λ (l : List ℕ). reading l 0) (sym (ap (λ (x : Writing × List ℕ). x .1) e))
-        ∙ record-reads-in r text [] (drop (length (recordBytes r text)) buf) fit k (ltb-false 64 (length text) l)
-        ∙ ap (Found r) (zero-add (length (recordBytes r text)) ∙ same)
+        rw (← ap (λ (x : Writing × List ℕ). x .1) e, ← (zero-add (length (recordBytes r text)) ∙ same))
+        (record-reads-in r text [] (drop (length (recordBytes r text)) buf) fit k (ltb-false 64 (length text) l))
 
 pub pair-written-reads : (p : Pair) (buf : List ℕ) {size : ℕ} {left : List ℕ} → Room (pair .fields) (pairNumbers p) → pairWriting p buf ≡ (Written size, left) → pairReading left 0 ≡ FoundPair p size
 unfolding pairWriting writing

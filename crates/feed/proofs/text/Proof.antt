@@ -94,7 +94,7 @@ returns-3 c =
     let size = c .before .before .record .given .0 .0 in
     let record-is = c .before .before .record .given .1 in
     let found = sym (c .before .before .before .before .before .before .before .read .ensures) ∙ c .before .before .before .before .before .found .given .1 in
-    let text : textAt s (a .at) ≡ (a .at + 4, size) = ap (textIn (a .at)) found ∙ ap (textOf (a .at)) record-is in
+    let text : textAt s (a .at) ≡ textOf (a .at) (Note size) = ap (textIn (a .at)) found ∙ ap (textOf (a .at)) record-is in
     rw (text, add-sub-cancel-left) (refl, refl)
 
 pub text-spec : {M : Type 1} → statement M
