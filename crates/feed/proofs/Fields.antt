@@ -1,14 +1,14 @@
 -- Laws of fields: where each stands, counted from the record's first byte; and that packing and unpacking undo each other, over any widths.
-use Prim.Native.Nat.{ℕ, zero, suc, _+_, _-_, _^_, _≤_, _<_}
+use Prim.Native.Nat.{ℕ, zero, suc, _+_, _-_, _≤_}
 use native.Mathlib.Nat.{zero-add, suc-add}
 use native.Mathlib.Omega.{arith}
 use mathlib.Core.List.{List, [], _∷_, _++_, append-assoc}
 use mathlib.Core.Path.{_≡_, refl, ap, _∙_}
 use lib.ListN.{length, take, drop, length-append, length-drop}
 use lib.Seq.{drop-drop, take-add, take-at, drop-at, take-take, take-nil}
-use Rattle.feed.specs.Number.{value, bytes}
-use Rattle.feed.specs.Kind.{entry, mark, pair, packed, unpacked, fieldsIn}
-use Rattle.feed.proofs.Numbers.{Bytes, bytes-length, value-bytes, bytes-drop, bytes-value-take}
+use Rattle.feed.specs.Number.{value, bytes, Bytes}
+use Rattle.feed.specs.Kind.{entry, mark, pair, packed, Room, unpacked, fieldsIn}
+use Rattle.feed.proofs.Numbers.{bytes-length, value-bytes, bytes-drop, bytes-value-take}
 
 -- the number of a width at a place
 abbrev pub at : ℕ → ℕ → List ℕ → ℕ
@@ -28,13 +28,6 @@ pair-places bs = rw (drop-drop 4 4 bs, drop-drop 4 8 bs, drop-drop 4 12 bs, drop
 abbrev pub total : List ℕ → ℕ
 total [] = 0
 total (width ∷ widths) = width + total widths
-
--- each number has room in its field
-abbrev pub Room : List ℕ → List ℕ → Type 0
-Room [] [] = Unit {0}
-Room [] (number ∷ numbers) = ⊥
-Room (width ∷ widths) [] = ⊥
-Room (width ∷ widths) (number ∷ numbers) = (number < 256 ^ width) × Room widths numbers
 
 pub packed-length : (widths numbers : List ℕ) → Room widths numbers → length (packed widths numbers) ≡ total widths
 packed-length [] [] h = refl

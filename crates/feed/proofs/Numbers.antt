@@ -7,13 +7,9 @@ use mathlib.Core.List.{List, [], _∷_, _++_}
 use mathlib.Core.Path.{_≡_, refl, ap}
 use lib.ListN.{length, take, drop, getD}
 use lib.Seq.{drop-cons, take-add, length-take-le}
-use Rattle.lists.proofs.All.{All}
-use Rattle.feed.specs.Number.{value, bytes}
+use Rattle.feed.specs.Number.{value, bytes, Bytes}
 
 -- ---- a number and its bytes
-
-abbrev pub Bytes : List ℕ → Type 0
-Bytes bs = All (λ (b : ℕ). b < 256) bs
 
 pub bytes-length : (n x : ℕ) → length (bytes n x) ≡ n
 bytes-length zero x = refl

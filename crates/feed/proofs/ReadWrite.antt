@@ -17,12 +17,12 @@ use Rattle.feed.specs.declared.PairReading.the-variants.{Found as FoundP
 use Rattle.feed.specs.declared.Reading.the-variants.{Found}
 use Rattle.feed.specs.declared.Record.{Record}
 use Rattle.feed.specs.declared.Record.the-variants.{Note}
-use Rattle.feed.specs.Number.{bytes}
+use Rattle.feed.specs.Number.{bytes, Bytes}
 use Rattle.feed.specs.Kind.{Kind, entry, mark, close, pair, kindsOf, framed, packed, fieldsIn}
 use Rattle.feed.specs.Record.{recordIn, recordBytes, pairBytes, streamKnown}
 use Rattle.feed.specs.Reading.{lengthIn, kindIn, headOf, reading, pairReadingOf, pairReadingFrom, pairReading}
 use Rattle.feed.specs.Text.{textOf, textIn, textAt, stretch, textBytes}
-use Rattle.feed.proofs.Numbers.{Bytes, bytes-drop, bytes-value-take}
+use Rattle.feed.proofs.Numbers.{bytes-drop, bytes-value-take}
 use Rattle.feed.proofs.Fields.{total, packed-unpacked}
 use Rattle.feed.proofs.Heads.{Row, here, there, whole-elim, whole-row, whole-pair}
 use Rattle.feed.proofs.Readings.{found-elim}

@@ -18,12 +18,12 @@ use Rattle.feed.specs.declared.Reading.{Reading}
 use Rattle.feed.specs.declared.Reading.the-variants.{Found}
 use Rattle.feed.specs.declared.Record.{Record}
 use Rattle.feed.specs.declared.Record.the-variants.{Entry as entryRecord, Mark, Close, Note}
-use Rattle.feed.specs.Kind.{entry, mark, close, pair, lengthsOf, framed, packed}
-use Rattle.feed.specs.Record.{entryFrom, markFrom, closeFrom, entryNumbers, markNumbers, closeNumbers, recordIn, recordBytes, pairBytes, streamKnown}
+use Rattle.feed.specs.Kind.{entry, mark, close, pair, lengthsOf, framed, packed, Room}
+use Rattle.feed.specs.Record.{entryFrom, markFrom, closeFrom, entryNumbers, markNumbers, closeNumbers, recordIn, recordBytes, pairBytes, streamKnown, Fitting}
 use Rattle.feed.specs.Reading.{lengthIn, kindIn, outside, kindChecks, headUnless, headOf, foundAt, readingFrom, reading, pairReadingOf, pairReadingFrom, pairReading}
 use Rattle.feed.specs.Text.{textOf, textIn, textAt, stretch, carried, ReadsAs}
 use Rattle.feed.proofs.Numbers.{value-bytes}
-use Rattle.feed.proofs.Fields.{Room, unpacked-packed}
+use Rattle.feed.proofs.Fields.{unpacked-packed}
 use Rattle.feed.proofs.Heads.{inside-intro, lengths-entry, lengths-mark, lengths-close, lengths-note, lengths-pair, head-kind, kind-fit}
 
 -- the head of framed fields is found whole, where the table allows their length
@@ -45,13 +45,6 @@ unfolding readingFrom foundAt
 found-framed kind fields rest r at h e known =
     let next : at + 2 + (2 + length fields) ≡ at + length (framed kind fields) = omega arith in
     rw (h, e, known, next)
-
--- the numbers of a record have room in their fields, as those of the code's types do, and the size of a note is that of its text
-abbrev pub Fitting : Record → List ℕ → Type 0
-Fitting (entryRecord stream e) text = Room (entry .fields) (entryNumbers stream e)
-Fitting (Mark stream time) text = Room (mark .fields) (markNumbers stream time)
-Fitting (Close stream) text = Room (close .fields) (closeNumbers stream)
-Fitting (Note size) text = size ≡ length text
 
 -- the bytes of a record, with any others behind them, are read as that record with the place after it
 pub record-reads : (r : Record) (text rest : List ℕ) (at : ℕ) → Fitting r text → streamKnown r ≡ true → length text ≤ 64

@@ -1,5 +1,5 @@
 -- The table of kinds: for each its number, its shortest and its longest length, and its fields.
-use Prim.Native.Nat.{ℕ, _+_}
+use Prim.Native.Nat.{ℕ, _+_, _^_, _<_}
 use mathlib.Core.Bool.{cond}
 use mathlib.Core.List.{List, [], _∷_, _++_}
 use lib.ListN.{length, take, drop}
@@ -65,6 +65,13 @@ abbrev pub packed : List ℕ → List ℕ → List ℕ
 packed [] numbers = []
 packed (width ∷ widths) [] = []
 packed (width ∷ widths) (number ∷ numbers) = bytes width number ++ packed widths numbers
+
+-- each number has room in its field
+abbrev pub Room : List ℕ → List ℕ → Type 0
+Room [] [] = Unit {0}
+Room [] (number ∷ numbers) = ⊥
+Room (width ∷ widths) [] = ⊥
+Room (width ∷ widths) (number ∷ numbers) = (number < 256 ^ width) × Room widths numbers
 
 -- the numbers in the fields at the front of some bytes
 abbrev pub unpacked : List ℕ → List ℕ → List ℕ

@@ -2,14 +2,15 @@
 use Prim.Native.Nat.{ℕ, _-_}
 use mathlib.Core.Bool.{Bool, true, cond}
 use mathlib.Core.List.{List, [], _∷_}
-use lib.ListN.{getD}
+use mathlib.Core.Path.{_≡_}
+use lib.ListN.{length, getD}
 use lib.Dec.{ltb, eqb}
 use Rattle.pairing.specs.declared.Entry.{Entry}
 use Rattle.pairing.specs.declared.Pair.{Pair}
 use Rattle.pairing.specs.Numbers.{pairNumbers}
 use Rattle.feed.specs.declared.Record.{Record}
 use Rattle.feed.specs.declared.Record.the-variants.{Entry as entryRecord, Mark, Close, Note}
-use Rattle.feed.specs.Kind.{entry, mark, close, note, pair, framed, packed, fieldsIn}
+use Rattle.feed.specs.Kind.{entry, mark, close, note, pair, framed, packed, Room, fieldsIn}
 
 -- stream, start, end, key, value
 abbrev pub entryNumbers : ℕ → Entry → List ℕ
@@ -58,3 +59,10 @@ streamKnown (entryRecord stream e) = ltb stream 2
 streamKnown (Mark stream time) = ltb stream 2
 streamKnown (Close stream) = ltb stream 2
 streamKnown (Note size) = true
+
+-- its numbers have room in their fields, as those of the code's types do, and the size of a note is that of its text
+abbrev pub Fitting : Record → List ℕ → Type 0
+Fitting (entryRecord stream e) text = Room (entry .fields) (entryNumbers stream e)
+Fitting (Mark stream time) text = Room (mark .fields) (markNumbers stream time)
+Fitting (Close stream) text = Room (close .fields) (closeNumbers stream)
+Fitting (Note size) text = size ≡ length text

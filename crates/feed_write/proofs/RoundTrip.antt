@@ -1,4 +1,4 @@
--- Written, then read; and read, then written, for all records and all feeds.
+-- Both round trips hold.
 use Prim.Native.Nat.{ℕ, _+_, _-_, _≤_}
 use native.Mathlib.Nat.{zero-add}
 use native.Mathlib.Omega.{arith}
@@ -11,32 +11,28 @@ use borrow.Author.Tests.{ltb-false}
 use Rattle.lists.specs.Check.{_gives_, firstOr}
 use Rattle.lists.specs.Put.{put}
 use Rattle.pairing.specs.declared.Pair.{Pair}
-use Rattle.pairing.specs.Numbers.{pairNumbers}
 use Rattle.feed.specs.declared.PairReading.the-variants.{Found as FoundPair}
-use Rattle.feed.specs.declared.Reading.the-variants.{Found}
 use Rattle.feed.specs.declared.Record.{Record}
 use Rattle.feed_write.specs.declared.Writing.{Writing}
 use Rattle.feed_write.specs.declared.Writing.the-variants.{Written, Refused}
-use Rattle.feed.specs.Kind.{pair}
 use Rattle.feed.specs.Record.{recordBytes, pairBytes, streamKnown}
-use Rattle.feed.specs.Reading.{reading, pairReading}
+use Rattle.feed.specs.Reading.{pairReading}
 use Rattle.feed.specs.Text.{textBytes, ReadsAs}
 use Rattle.feed_write.specs.Writing.{writing, recordWriting, pairWriting}
+use Rattle.feed_write.specs.RoundTrip.{WrittenReads, PairWrittenReads, ReadWrites, PairReadWrites}
 use Rattle.lists.proofs.Put.{put-first}
-use Rattle.feed.proofs.Numbers.{Bytes}
-use Rattle.feed.proofs.Fields.{Room}
 use Rattle.feed_write.proofs.Writings.{record-written, pair-written}
-use Rattle.feed.proofs.WriteRead.{Fitting, record-reads-in, pair-reads-in}
+use Rattle.feed.proofs.WriteRead.{record-reads-in, pair-reads-in}
 use Rattle.feed.proofs.ReadWrite.{record-back, pair-back, found-stream, text-short, found-length, pair-found-length}
 
--- ---- written, then read: what a writing left in the buffer is read back from its start, with the place after it and its text
+-- ---- written, then read
 
 not-written : {number size : ℕ} {buf left : List ℕ} → _≡_ {A = Writing × List ℕ} (Refused number, buf) (Written size, left) → ⊥
 not-written e = let f = ap (λ (x : Writing × List ℕ). x .0) e in let z : _≡_ {A = ℕ} 0 1 = cc in omega arith
 
-pub written-reads : (r : Record) (text buf : List ℕ) {size : ℕ} {left : List ℕ} → Fitting r text → recordWriting r text buf ≡ (Written size, left) → ReadsAs left 0 r text size
+pub written-reads : WrittenReads
 unfolding recordWriting writing
-written-reads r text buf {size} {left} fit h = go (streamKnown r) (ltb 64 (length text)) (ltb (length buf) (length (recordBytes r text))) refl refl h
+written-reads r text buf left size fit h = go (streamKnown r) (ltb 64 (length text)) (ltb (length buf) (length (recordBytes r text))) refl refl h
   where
     go : (known long short : Bool) → streamKnown r ≡ known → ltb 64 (length text) ≡ long
         → _≡_ {A = Writing × List ℕ} (firstOr (λ (number : ℕ). (Refused number, buf)) (Written (length (recordBytes r text)), recordBytes r text ++ drop (length (recordBytes r text)) buf) ((not known gives 1) ∷ (long gives 10) ∷ (short gives 12) ∷ [])) (Written size, left)
@@ -50,9 +46,9 @@ written-reads r text buf {size} {left} fit h = go (streamKnown r) (ltb 64 (lengt
         rw (← ap (λ (x : Writing × List ℕ). x .1) e, ← (zero-add (length (recordBytes r text)) ∙ same))
         (record-reads-in r text [] (drop (length (recordBytes r text)) buf) fit k (ltb-false 64 (length text) l))
 
-pub pair-written-reads : (p : Pair) (buf : List ℕ) {size : ℕ} {left : List ℕ} → Room (pair .fields) (pairNumbers p) → pairWriting p buf ≡ (Written size, left) → pairReading left 0 ≡ FoundPair p size
+pub pair-written-reads : PairWrittenReads
 unfolding pairWriting writing
-pair-written-reads p buf {size} {left} fit h = go (ltb (length buf) (length (pairBytes p))) h
+pair-written-reads p buf left size fit h = go (ltb (length buf) (length (pairBytes p))) h
   where
     go : (short : Bool) → _≡_ {A = Writing × List ℕ} (firstOr (λ (number : ℕ). (Refused number, buf)) (Written (length (pairBytes p)), pairBytes p ++ drop (length (pairBytes p)) buf) ((short gives 12) ∷ [])) (Written size, left)
         → pairReading left 0 ≡ FoundPair p size
@@ -64,7 +60,7 @@ pair-written-reads p buf {size} {left} fit h = go (ltb (length buf) (length (pai
         ∙ pair-reads-in p [] (drop (length (pairBytes p)) buf) fit
         ∙ ap (FoundPair p) (zero-add (length (pairBytes p)) ∙ same)
 
--- ---- read, then written: into a buffer with room, the answer is the record's length, and its bytes stand at the buffer's start
+-- ---- read, then written
 
 module _ (buf bs front : List ℕ) (size : ℕ) (same : bs ≡ front) (long : length front ≡ size) where
   left-same : _≡_ {A = Writing × List ℕ} (Written (length bs), put 0 bs buf) (Written size, front ++ drop size buf)
@@ -73,18 +69,16 @@ module _ (buf bs front : List ℕ) (size : ℕ) (same : bs ≡ front) (long : le
       ∙ ap (λ (l : List ℕ). (Written (length l), l ++ drop (length l) buf)) same
       ∙ ap (λ (m : ℕ). (Written m, front ++ drop m buf)) long
 
-pub read-writes : (s : List ℕ) (at : ℕ) (buf : List ℕ) {r : Record} {next : ℕ} → Bytes s → reading s at ≡ Found r next → next - at ≤ length buf
-    → recordWriting r (textBytes s at) buf ≡ (Written (next - at), take (next - at) (drop at s) ++ drop (next - at) buf)
-read-writes s at buf {r} {next} b h room =
+pub read-writes : ReadWrites
+read-writes s buf at next r b h room =
     let same = record-back s at b h in
     let long = found-length s at h in
     let fits : length (recordBytes r (textBytes s at)) ≤ length buf = rw (same, long) room in
     record-written r (textBytes s at) buf (found-stream s at h) (text-short s at b h) fits
     ∙ left-same buf (recordBytes r (textBytes s at)) (take (next - at) (drop at s)) (next - at) same long
 
-pub pair-read-writes : (s : List ℕ) (at : ℕ) (buf : List ℕ) {p : Pair} {next : ℕ} → Bytes s → pairReading s at ≡ FoundPair p next → next - at ≤ length buf
-    → pairWriting p buf ≡ (Written (next - at), take (next - at) (drop at s) ++ drop (next - at) buf)
-pair-read-writes s at buf {p} {next} b h room =
+pub pair-read-writes : PairReadWrites
+pair-read-writes s buf at next p b h room =
     let same = pair-back s at b h in
     let long = pair-found-length s at h in
     let fits : length (pairBytes p) ≤ length buf = rw (same, long) room in
