@@ -1,6 +1,6 @@
 -- Steps that the walks of this crate share. A walk goes through a function's code statement by statement, with a list of what it has; a step says what is had before and after it.
 -- Assumes nothing.
-use Prim.Native.Nat.{ℕ, zero, suc}
+use Prim.Native.Nat.{ℕ, zero, suc, _+_, _*_, _-_}
 use mathlib.Core.Bool.{Bool, not}
 use mathlib.Core.List.{List, [], _∷_}
 use mathlib.Core.Path.{_≡_, refl, ap}
@@ -38,9 +38,9 @@ empty τ l Γ = ‵ (froom τ l zero) ∷ ‵ (fdies τ l) ∷ Γ
 
 module _ {M : Type 1} {𝓤 : URA M} {H : Heap 𝓤} {A : Atoms 𝓤} {K : Type 0} {W : Given 𝓤 H A} {Γ : List (Item 𝓤)} where
   module _ {E : Env 𝓤 H} where
-    -- the one at n is read
-    pub var : K → (n : ℕ) {i : ℕ} {p : Share} {v : Val} → nth 𝓤 H A n Γ ≡ ‵ (fat p (spotOf 𝓤 H E i .0) (spotOf 𝓤 H E i .1) zero v) → Opd K W Γ E (copy (place i [])) v
-    var t n e = load t (from t (stop t)) (look t n e)
+    -- the one that the code names is read, where the locals stand from n on, the last first, each in two places
+    pub var : K → (n last : ℕ) {i : ℕ} {p : Share} {v : Val} → nth 𝓤 H A (n + 2 * (last - i)) Γ ≡ ‵ (fat p (spotOf 𝓤 H E i .0) (spotOf 𝓤 H E i .1) zero v) → Opd K W Γ E (copy (place i [])) v
+    var t n last {i} e = load t (from t (stop t)) (look t (n + 2 * (last - i)) e)
 
     -- it is set, and the rest runs
     pub sets : K → {C : Calls 𝓤 H} {Λ : Loops 𝓤 H} {q : Post 𝓤 H} {i : ℕ} {r : RValue} {rest : Body} {v : Val} {Γ′ : List (Item 𝓤)}

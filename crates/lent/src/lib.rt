@@ -69,7 +69,9 @@ pub fn mark_lent(journal: &mut Journal, time: u32) -> Answer
     ensures { λ r. ⌜ r ≡ marked time (now (journal .entry)) .answer ⌝ }
     ensures { λ _. ⌜ now (journal .exit) ≡ marked time (now (journal .entry)) .journal ⌝ }
 {
-    let marked = (*journal).mark(time);
-    *journal = marked.journal;
+    let before = *journal;
+    let marked = before.mark(time);
+    let after = marked.journal;
+    *journal = after;
     marked.answer
 }

@@ -101,27 +101,29 @@ module _ {M : Type 1} (𝓤 : URA M) (H : Heap 𝓤) (A : Atoms 𝓤) (W : Given
         qed W ((‵ (flft κ q) ⊛ ‵ ftrue) ∷ ‵ (owns (MutRef (named 0) κ journal.the-row ∷ u32 ∷ []) x at) ∷ []) ∵ split ! $ move ! (2 ∷ []) $ fsplit ! $ move ! (1 ∷ []) $ fsplit ! $
         peeks ! u32 (Is u32) (shows 𝓤 H A u32) t (vint w32 t ∷ []) (λ gt. move ! (2 ∷ []) $ fsplit3 ! $ drop ! $ keep ! (0 ∷ 1 ∷ 4 ∷ []) $
         -- [observation; borrow; token]
-        enter ! C Λ code.function (vptr b o ∷ vint w32 t ∷ []) _ $ alloc1 ! (λ l₀. alloc1 ! (λ l₁. alloc1 ! (λ l₂. alloc1 ! (λ l₃. alloc1 ! (λ l₄. alloc0 ! $
-        params1 ! $ pass1 ! (init ! 6 refl (tt, tt)) $ pass1 ! (init ! 4 refl (tt, record { fits = gt .1 })) $ pass0 ! $ move ! (10 ∷ 11 ∷ 12 ∷ []) $ opens ! tt journal.the-row {h = j} b o (λ vs.
+        enter ! C Λ code.function (vptr b o ∷ vint w32 t ∷ []) _ $ alloc1 ! (λ l₀. alloc1 ! (λ l₁. alloc1 ! (λ l₂. alloc1 ! (λ l₃. alloc1 ! (λ l₄. alloc1 ! (λ l₅. alloc0 ! $
+        params1 ! $ pass1 ! (init ! 8 refl (tt, tt)) $ pass1 ! (init ! 6 refl (tt, record { fits = gt .1 })) $ pass0 ! $ move ! (12 ∷ 13 ∷ 14 ∷ []) $ opens ! tt journal.the-row {h = j} b o (λ vs.
         spelt ! journal.the-row (Is journal.the-row) (shows 𝓤 H A journal.the-row) (Struct.vals journal.the-type journal′.the-laws) (Struct.tells journal.the-type journal′.the-laws) fullShare j vs b o $
         move ! (1 ∷ []) $ peeks ! journal.the-row (Is journal.the-row) (shows 𝓤 H A journal.the-row) j (jv j ∷ []) (λ gj. drop ! $
-        -- [the journal; the open borrow; observation; its counterpart; _4; …; _3; …; _2; …; _1; …; _0; …]
-        -- _4 = *_1
-        sets ! (of-opd ! (load ! (from ! (hop ! (look ! 10 refl) (stop !))) (look-raw ! 0 refl))) (init ! 4 refl (Struct.lawful journal.the-type journal′.the-laws 𝓤 H A W .typed j _ gj .0)) $
-        -- _3 = mark(_4, _2)
+        -- [the journal; the open borrow; observation; its counterpart; _5; …; _4; …; _3; …; _2; …; _1; …; _0; …]
+        -- _3 = *_1
+        sets ! (of-opd ! (load ! (from ! (hop ! (look ! 12 refl) (stop !))) (look-raw ! 0 refl))) (init ! 8 refl (Struct.lawful journal.the-type journal′.the-laws 𝓤 H A W .typed j _ gj .0)) $
+        -- _4 = mark(_3, _2)
         asks ! fm mark.ended (mark.spec 𝓤 H A at-mem run) known ((tt, tt, tt, (j, (t, tt)), (jv j ∷ [], (vint w32 t ∷ [], tt))), tt)
         (Struct.makes journal.the-type journal′.the-plain 𝓤 H A, (uint-makes 𝓤 H A W w32, tt)) (gj, (gt, tt)) (id⊢ 𝓤 _) (λ (r : Marked). r ≡ marked t j) (λ u. id⊢ 𝓤 _)
-        (and-then ! (var ! 5 refl) (and-then ! (var ! 9 refl) (no-more !))) (λ u r e g. land ! (from ! (stop !)) (init ! 6 refl (Struct.lawful outcome.the-type outcome′.the-laws 𝓤 H A W .typed r _ g .0)) $
-        rewrite ! 6 (λ (v : Val). ‵ (fat fullShare outcome′.mir l₃ 0 v)) (ap only (Struct.tells outcome.the-type outcome′.the-laws r (u ∷ []) g)) refl $
-        -- *_1 = _3.journal
-        assigns ! (of-opd ! (load ! (from ! (fld ! refl (stop !))) (look-in ! 6 (sub ! 1 refl (whole !))))) (from ! (hop ! (look ! 10 refl) (stop !)))
+        (and-then ! (var ! 5 5 refl) (and-then ! (var ! 5 5 refl) (no-more !))) (λ u r e g. land ! (from ! (stop !)) (init ! 6 refl (Struct.lawful outcome.the-type outcome′.the-laws 𝓤 H A W .typed r _ g .0)) $
+        rewrite ! 6 (λ (v : Val). ‵ (fat fullShare outcome′.mir l₄ 0 v)) (ap only (Struct.tells outcome.the-type outcome′.the-laws r (u ∷ []) g)) refl $
+        -- _5 = _4.journal
+        sets ! (of-opd ! (load ! (from ! (fld ! refl (stop !))) (look-in ! 6 (sub ! 1 refl (whole !))))) (init ! 4 refl (Struct.lawful journal.the-type journal′.the-laws 𝓤 H A W .typed (r .journal) _ (journal-is r _ g) .0)) $
+        -- *_1 = _5
+        assigns ! (of-opd ! (var ! 4 5 refl)) (from ! (hop ! (look ! 12 refl) (stop !)))
         (store-raw ! 0 refl (Struct.lawful journal.the-type journal′.the-laws 𝓤 H A W .typed (r .journal) _ (journal-is r _ g) .0)) $
-        -- _0 = _3.answer
-        sets ! (of-opd ! (load ! (from ! (fld ! refl (stop !))) (look-in ! 6 (sub ! 0 refl (whole !))))) (init ! 12 refl (Enum.lawful answer.the-type answer′.the-laws 𝓤 H A W tt .typed (r .answer) _ (answer-is r _ g) .0)) $
+        -- _0 = _4.answer
+        sets ! (of-opd ! (load ! (from ! (fld ! refl (stop !))) (look-in ! 6 (sub ! 0 refl (whole !))))) (init ! 14 refl (Enum.lawful answer.the-type answer′.the-laws 𝓤 H A W tt .typed (r .answer) _ (answer-is r _ g) .0)) $
         owned ! journal.the-row (Is journal.the-row) (Struct.makes journal.the-type journal′.the-plain 𝓤 H A) (r .journal) _ (journal-is r _ g) $ move ! (1 ∷ 0 ∷ []) $ closes ! tt journal.the-row (r .journal) (jv (r .journal) ∷ []) b o $
-        -- [observation; borrow; token; _4; …; _3; …; _2; …; _1; …; _0; …]
-        returns ! (look ! 11 refl) $ frees-full ! 11 refl refl $ frees-full ! 9 refl refl $ frees-full ! 7 refl refl $ frees-full ! 5 refl refl $ frees-full ! 3 refl refl $ free0 ! $
-        by ! (exits r _ e (gt .1) (answer-is r _ g)))))))))))
+        -- [observation; borrow; token; _5; …; _4; …; _3; …; _2; …; _1; …; _0; …]
+        returns ! (look ! 13 refl) $ frees-full ! 13 refl refl $ frees-full ! 11 refl refl $ frees-full ! 9 refl refl $ frees-full ! 7 refl refl $ frees-full ! 5 refl refl $ frees-full ! 3 refl refl $ free0 ! $
+        by ! (exits r _ e (gt .1) (answer-is r _ g))))))))))))
 
 pub mark-lent-spec : {M : Type 1} → stated.statement M
 unfolding code.routine tablesOf

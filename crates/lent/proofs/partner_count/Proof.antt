@@ -172,7 +172,7 @@ module _ {M : Type 1} (𝓤 : URA M) (H : Heap 𝓤) (A : Atoms 𝓤) (W : Given
       ends i over =
           asks ! fm answer.ended (answer.spec 𝓤 H A mem run) known-answer ((tt, tt, tt, (g, (sofar i, tt)), (ev g ∷ [], (vint w64 (sofar i) ∷ [], tt))), tt)
           (Struct.makes entry.the-type entry′.the-plain 𝓤 H A, (uint-makes 𝓤 H A W w64, tt)) (gg, ((refl, sofar-fits i), tt)) (id⊢ 𝓤 _) (λ (n : Counted). n ≡ answered g (sofar i)) (λ u. id⊢ 𝓤 _)
-          (and-then ! (var ! 17 refl) (and-then ! (var ! 15 refl) (no-more !))) (λ u n e gn. land ! (from ! (stop !)) (init ! 22 refl (Enum.lawful result.the-type result′.the-laws 𝓤 H A W tt .typed n _ gn .0)) $
+          (and-then ! (var ! 3 10 refl) (and-then ! (var ! 3 10 {v = vint w64 (sofar i)} refl) (no-more !))) (λ u n e gn. land ! (from ! (stop !)) (init ! 22 refl (Enum.lawful result.the-type result′.the-laws 𝓤 H A W tt .typed n _ gn .0)) $
           returns ! (look ! 22 refl) $ frees-full ! 22 refl refl $ frees-full ! 20 refl refl $ frees-full ! 18 refl refl $ frees-full ! 16 refl refl $ frees-full ! 14 refl refl $ frees-full ! 12 refl refl $
           frees-empty ! 10 refl refl $ frees-empty ! 8 refl refl $ frees-empty ! 6 refl refl $ frees-empty ! 4 refl refl $ frees-empty ! 2 refl refl $ free0 ! $
           keep ! (0 ∷ 2 ∷ []) $ by ! (exits n u (e ∙ ap (answered g) (found-all r g ys (i .0) over)) gn))
@@ -181,11 +181,11 @@ module _ {M : Type 1} (𝓤 : URA M) (H : Heap 𝓤) (A : Atoms 𝓤) (W : Given
       unfolding afterTurn
       turns i =
           -- _6 = run.len(), _7 = _5 < _6
-          sets ! (of-opd ! (load ! (from ! (fld ! refl (stop !))) (look-in ! 20 (sub ! 1 refl (whole !))))) (init ! 10 refl (tt, record { fits = room .0 })) $ sets ! (bin ! (var ! 12 refl) (var ! 10 refl) tt) (init ! 8 refl (tt, tt)) $
-          forks ! (var ! 8 refl)
+          sets ! (of-opd ! (load ! (from ! (fld ! refl (stop !))) (look-in ! 20 (sub ! 1 refl (whole !))))) (init ! 10 refl (tt, record { fits = room .0 })) $ sets ! (bin ! (var ! 2 10 refl) (var ! 2 10 refl) tt) (init ! 8 refl (tt, tt)) $
+          forks ! (var ! 2 10 refl)
           -- _6 = _5 * 16, _9 = &run[_5]
-          (λ t. goes-on ! $ sets ! (bin ! (var ! 12 refl) (lit ! tt) (record { fits = place-fits i })) (store ! 10 refl (tt, record { fits = place-fits i })) $
-          sets ! (bin ! (load ! (from ! (fld ! refl (stop !))) (look-in ! 20 (sub ! 0 refl (whole !)))) (var ! 10 refl) tt) (init ! 4 refl (tt, tt)) $
+          (λ t. goes-on ! $ sets ! (bin ! (var ! 2 10 refl) (lit ! tt) (record { fits = place-fits i })) (store ! 10 refl (tt, record { fits = place-fits i })) $
+          sets ! (bin ! (load ! (from ! (fld ! refl (stop !))) (look-in ! 20 (sub ! 0 refl (whole !)))) (var ! 2 10 refl) tt) (init ! 4 refl (tt, tt)) $
           rewrite ! 4 (λ (p : ℕ). ‵ (fat fullShare tyPtr l₉ 0 (vptr b p))) (sym (place-is 16 o (i .0))) refl $ move ! (1 ∷ 0 ∷ []) $
           looks-slice ! tt entry.the-row (Is entry.the-row) (shows 𝓤 H A entry.the-row) (Struct.vals entry.the-type entry′.the-laws) (Struct.tells entry.the-type entry′.the-laws) (Struct.copy entry.the-type entry′.the-copy 𝓤 H A W) ys b o (λ q′.
           elem-out ! entry.the-row (Is entry.the-row) (shows 𝓤 H A entry.the-row) (Struct.vals entry.the-type entry′.the-laws) (Struct.tells entry.the-type entry′.the-laws) q′ ys (i .0) g b o (inside t) (λ ge.
@@ -195,17 +195,17 @@ module _ {M : Type 1} (𝓤 : URA M) (H : Heap 𝓤) (A : Atoms 𝓤) (W : Given
           -- [the token; the borrow; _10; …], as in the invariant. _8 = pairs(_2, _3, _10)
           asks ! fm test.ended (test.spec 𝓤 H A mem run) known-test ((tt, tt, tt, (r, (g, (e, tt))), (rv r ∷ [], (ev g ∷ [], (ev e ∷ [], tt)))), tt)
           (Enum.makes rule.the-type rule′.the-plain 𝓤 H A, (Struct.makes entry.the-type entry′.the-plain 𝓤 H A, (Struct.makes entry.the-type entry′.the-plain 𝓤 H A, tt))) (gr, (gg, (ge, tt))) (id⊢ 𝓤 _)
-          (λ (p : Bool). p ≡ pairs r g e) (λ u. id⊢ 𝓤 _) (and-then ! (var ! 19 refl) (and-then ! (var ! 17 refl) (and-then ! (var ! 3 refl) (no-more !)))) (λ u p is gp.
+          (λ (p : Bool). p ≡ pairs r g e) (λ u. id⊢ 𝓤 _) (and-then ! (var ! 3 10 refl) (and-then ! (var ! 3 10 refl) (and-then ! (var ! 3 10 refl) (no-more !)))) (λ u p is gp.
           land ! (from ! (stop !)) (init ! 6 refl (bool-lawful 𝓤 H A W .typed p _ gp .0)) $ rewrite ! 6 (λ (v : Val). ‵ (fat fullShare tyBool l₈ 0 v)) (ap only (bool-tells p (u ∷ []) gp) ∙ ap vbool is) refl $
-          forget ! 2 refl $ forget ! 4 refl $ forget ! 8 refl $ forget ! 10 refl $ forks ! (var ! 6 refl)
+          forget ! 2 refl $ forget ! 4 refl $ forget ! 8 refl $ forget ! 10 refl $ forks ! (var ! 2 10 refl)
           -- _4 += 1, _5 += 1
-          (λ does. sets ! (bin ! (var ! 14 refl) (lit ! tt) (record { fits = more-fits t does })) (store ! 14 refl (tt, record { fits = more-fits t does })) $
+          (λ does. sets ! (bin ! (var ! 2 10 refl) (lit ! tt) (record { fits = more-fits t does })) (store ! 14 refl (tt, record { fits = more-fits t does })) $
           rewrite ! 14 (λ (n : ℕ). ‵ (fat fullShare word l₄ 0 (vint w64 n))) (more t does) refl $ forget ! 6 refl $
-          assigns-last ! (bin ! (var ! 12 refl) (lit ! tt) (record { fits = fits (next i (inside t)) })) (from ! (stop !)) (store ! 12 refl (tt, record { fits = fits (next i (inside t)) })) $
+          assigns-last ! (bin ! (var ! 2 10 refl) (lit ! tt) (record { fits = fits (next i (inside t)) })) (from ! (stop !)) (store ! 12 refl (tt, record { fits = fits (next i (inside t)) })) $
           again ! Nearer At i (next i (inside t)) (add-one-dec (length ys) (i .0) (inside t)))
           -- _5 += 1
           (λ not. goes-on ! $ rewrite ! 14 (λ (n : ℕ). ‵ (fat fullShare word l₄ 0 (vint w64 n))) (found-same r g ys (i .0) g (inside t) not) refl $ forget ! 6 refl $
-          assigns-last ! (bin ! (var ! 12 refl) (lit ! tt) (record { fits = fits (next i (inside t)) })) (from ! (stop !)) (store ! 12 refl (tt, record { fits = fits (next i (inside t)) })) $
+          assigns-last ! (bin ! (var ! 2 10 refl) (lit ! tt) (record { fits = fits (next i (inside t)) })) (from ! (stop !)) (store ! 12 refl (tt, record { fits = fits (next i (inside t)) })) $
           again ! Nearer At i (next i (inside t)) (add-one-dec (length ys) (i .0) (inside t)))))))
           (λ over. first ! $ jumps ! $ exec ! C Λ En mir.t-4 (atRet En Post) $ forget ! 8 refl $ forget ! 10 refl $ ends i (nltb→le (i .0) (length ys) over))
         where
