@@ -1,5 +1,5 @@
 -- Both round trips hold.
-use Prim.Native.Nat.{ℕ, _+_, _-_, _≤_}
+use Prim.Native.Nat.{ℕ, _-_, _≤_}
 use native.Mathlib.Nat.{zero-add}
 use native.Mathlib.Omega.{arith}
 use mathlib.Core.Bool.{Bool, true, false, not}
@@ -10,9 +10,7 @@ use lib.ListN.{length, drop, take}
 use borrow.Author.Tests.{ltb-false}
 use Rattle.lists.specs.Check.{_gives_, firstOr}
 use Rattle.lists.specs.Put.{put}
-use Rattle.pairing.specs.declared.Pair.{Pair}
 use Rattle.feed.specs.declared.PairReading.the-variants.{Found as FoundPair}
-use Rattle.feed.specs.declared.Record.{Record}
 use Rattle.feed_write.specs.declared.Writing.{Writing}
 use Rattle.feed_write.specs.declared.Writing.the-variants.{Written, Refused}
 use Rattle.feed.specs.Record.{recordBytes, pairBytes, streamKnown}

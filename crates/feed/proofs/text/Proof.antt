@@ -1,6 +1,6 @@
 -- `text` meets its contract: for a note its part is the stretch behind the head, and for anything else an empty part.
 use borrow.Author.Needs.{needs}
-use Prim.Native.Nat.{ℕ, _+_}
+use Prim.Native.Nat.{ℕ}
 use native.Mathlib.Nat.{zero-add, add-sub-cancel-left}
 use native.Mathlib.Omega.{arith}
 use mathlib.Core.Logic.{_⊎_, inl, inr}
