@@ -109,32 +109,32 @@ first-tells own other count e h =
     room true b e f = e
     room false b e f = absurd (false≢true f)
 
-module _ (rule : Rule) (side : Side) (own other : Half) (waiting : Queue) (mine others rows : Rows) (stand : Stand own other waiting mine others rows) where
+module _ (rule : Rule) (side : Side) (own other : Half) (waiting : Queue) (mine others rows : Rows) (m : area.Holds (own .area) mine) (o : area.Holds (other .area) others) (w : queue.Holds waiting rows) where
   abbrev v : View
   v = seen rule own other waiting mine others rows
 
   mine-length : length (v .mine) ≡ own .area .count
-  mine-length = content-length area.heldIn area.rowOf area.places 5 (own .area .count) mine (stand .holds-mine)
+  mine-length = content-length area.heldIn area.rowOf area.places 5 (own .area .count) mine m
 
   others-length : length (v .others) ≡ other .area .count
-  others-length = content-length area.heldIn area.rowOf area.places 5 (other .area .count) others (stand .holds-others)
+  others-length = content-length area.heldIn area.rowOf area.places 5 (other .area .count) others o
 
   waiting-length : length (v .waiting) ≡ waiting .count
-  waiting-length = content-length pairIn pairNumbers queue.places 8 (waiting .count) rows (stand .holds-rows)
+  waiting-length = content-length pairIn pairNumbers queue.places 8 (waiting .count) rows w
 
   -- what is refused stands as it stood
   pub leaves-all : Leaves v own other waiting mine others rows
   leaves-all =
-      let m = sym mine-length in
-      let o = sym others-length in
-      let w = sym waiting-length in
+      let held = sym mine-length in
+      let across = sym others-length in
+      let count = sym waiting-length in
       record {
-        own-half = λ i. record { journal = own .journal; area = record { count = m i } };
-        other-half = λ i. record { journal = other .journal; area = record { count = o i } };
-        count = λ i. record { count = w i };
-        mine-rows = stand .holds-mine .same;
-        others-rows = stand .holds-others .same;
-        queue-rows = stand .holds-rows .same;
+        own-half = λ i. record { journal = own .journal; area = record { count = held i } };
+        other-half = λ i. record { journal = other .journal; area = record { count = across i } };
+        count = λ i. record { count = count i };
+        mine-rows = m .same;
+        others-rows = o .same;
+        queue-rows = w .same;
       }
 
   module _ (e : Entry) where
@@ -271,20 +271,20 @@ module _ (s : State) (ok : Sound s) (e : Entry) (answer : Answer) (own other : H
 
 -- ---- a gate that moves
 
-module _ (rule : Rule) (side : Side) (own other : Half) (waiting : Queue) (mine others rows : Rows) (stand : Stand own other waiting mine others rows) (gate : Gate) (own′ other′ : Half) (others′ : Rows) where
+module _ (rule : Rule) (side : Side) (own other : Half) (waiting : Queue) (mine others rows : Rows) (m : area.Holds (own .area) mine) (o : area.Holds (other .area) others) (w : queue.Holds waiting rows) (gate : Gate) (own′ other′ : Half) (others′ : Rows) where
   shifted : own′ .journal ≡ moved gate (own .journal) → own′ .area ≡ own .area → other′ ≡ halfOf (other .journal) (area.wantedBy gate (area.held (other .area) others))
       → others′ ≡ area.rowsOf (area.wantedBy gate (area.held (other .area) others)) → Leaves (afterMove gate (seen rule own other waiting mine others rows)) own′ other′ waiting mine others′ rows
   unfolding afterMove
-  shifted j k o r =
-      let all = leaves-all rule side own other waiting mine others rows stand in
+  shifted j k l r =
+      let all = leaves-all rule side own other waiting mine others rows m o w in
       let same = k ∙ ap (λ (h : Half). h .area) (all .own-half) in
-      record { own-half = λ i. record { journal = j i; area = same i }; other-half = o; count = all .count; mine-rows = all .mine-rows; others-rows = r; queue-rows = all .queue-rows }
+      record { own-half = λ i. record { journal = j i; area = same i }; other-half = l; count = all .count; mine-rows = all .mine-rows; others-rows = r; queue-rows = all .queue-rows }
 
 move-rule : (gate : Gate) (v : View) → afterMove gate v .rule ≡ v .rule
 unfolding afterMove
 move-rule gate v = refl
 
-module _ (s : State) (ok : Sound s) (gate : Gate) (own other : Half) (others : Rows) (side : Side) where
+module _ (s : State) (a : area.Holds (s .join .a .area) (s .inA)) (b : area.Holds (s .join .b .area) (s .inB)) (q : queue.Holds (s .join .queue) (s .rows)) (gate : Gate) (own other : Half) (others : Rows) (side : Side) where
   pub moved-a : side ≡ A → own .journal ≡ moved gate (s .join .a .journal) → own .area ≡ s .join .a .area → other ≡ halfOf (s .join .b .journal) (area.wantedBy gate (area.held (s .join .b .area) (s .inB)))
       → others ≡ area.rowsOf (area.wantedBy gate (area.held (s .join .b .area) (s .inB)))
       → stateWith (record { rule = s .join .rule; a = own; b = other; queue = s .join .queue }) (s .inA) others (s .rows) ≡ stateOf side (afterMove gate (view side s))
@@ -292,7 +292,7 @@ module _ (s : State) (ok : Sound s) (gate : Gate) (own other : Half) (others : R
   moved-a turn j k o r =
       rw turn
       (state-a (s .join .rule) (afterMove gate (view A s)) (move-rule gate (view A s)) own other (s .join .queue) (s .inA) others (s .rows)
-      (shifted (s .join .rule) A (s .join .a) (s .join .b) (s .join .queue) (s .inA) (s .inB) (s .rows) (stand-a s ok) gate own other others j k o r))
+      (shifted (s .join .rule) A (s .join .a) (s .join .b) (s .join .queue) (s .inA) (s .inB) (s .rows) a b q gate own other others j k o r))
 
   pub moved-b : side ≡ B → own .journal ≡ moved gate (s .join .b .journal) → own .area ≡ s .join .b .area → other ≡ halfOf (s .join .a .journal) (area.wantedBy gate (area.held (s .join .a .area) (s .inA)))
       → others ≡ area.rowsOf (area.wantedBy gate (area.held (s .join .a .area) (s .inA)))
@@ -301,7 +301,7 @@ module _ (s : State) (ok : Sound s) (gate : Gate) (own other : Half) (others : R
   moved-b turn j k o r =
       rw turn
       (state-b (s .join .rule) (afterMove gate (view B s)) (move-rule gate (view B s)) own other (s .join .queue) (s .inB) others (s .rows)
-      (shifted (s .join .rule) B (s .join .b) (s .join .a) (s .join .queue) (s .inB) (s .inA) (s .rows) (stand-b s ok) gate own other others j k o r))
+      (shifted (s .join .rule) B (s .join .b) (s .join .a) (s .join .queue) (s .inB) (s .inA) (s .rows) b a q gate own other others j k o r))
 
 -- the journal that a side sees as its own
 pub view-own : (side : Side) (s : State) → view side s .own ≡ journalOf side (s .join)

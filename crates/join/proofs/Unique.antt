@@ -1,14 +1,22 @@
 -- The contract of each public call allows one answer, one join and one content of the places that it is lent.
+use Prim.Native.Nat.{_≤_}
 use mathlib.Core.List.{[]}
+use mathlib.Core.Path.{_≡_}
+use lib.ListN.{replicate, length-replicate}
 use denote.Ref.{now}
 use Rattle.unique.specs.Unique.{OneResult, OneOutcome}
 use Rattle.unique.proofs.Equation.{one-by-equation, outcome-by-equation, agree}
 use Rattle.lists.specs.Store.{Rows}
+use Rattle.lists.proofs.Store.{stores-stored}
+use Rattle.pairing.specs.Numbers.{pairNumbers, pairIn}
+use Rattle.pairing.proofs.Numbers.{pair-numbers}
 use Rattle.journal.specs.declared.Answer.{Answer}
+use Rattle.queue.specs.declared.Queue.{Queue}
+use Rattle.queue.specs.Queue as queue
 use Rattle.join.specs.declared.Join.{Join}
 use Rattle.join.specs.declared.Called.{Called}
 use Rattle.join.specs.declared.Taken.{Taken}
-use Rattle.join.specs.State.{Sound, stateWith}
+use Rattle.join.specs.State.{stateWith}
 use Rattle.join.specs.Calls.{Outcome, outcome}
 use Rattle.join.proofs.side_of.Reads as side-of
 use Rattle.join.proofs.Join.fresh.Reads as fresh
@@ -50,12 +58,25 @@ one-take κs args x y left other p q = let e = agree p q in λ i. (record { answ
 one-entry-on : OneOutcome {Seen = Outcome Answer} (λ κs r left. outcome (r .answer) (stateWith (r .join) (now (left .1 .0)) (now (left .1 .1 .0)) (now (left .1 .1 .1 .0)))) entry-on.Post
 one-entry-on = outcome-by-equation _ _
 
--- A mark and a close promise something only where some queue makes the state sound, as it is after judging.
-one-mark-on : (rows : Rows) → OneOutcome {Seen = Called × (Rows × Rows)} (λ κs r left. (r, (now (left .1 .0), now (left .1 .1 .0)))) (λ κs args r left. Sound (stateWith (args .0) (now (args .1 .0)) (now (args .1 .1 .0)) rows) × mark-on.Post κs args r left)
-one-mark-on rows κs args x y left other p q = let e = agree (p .1 rows (p .0)) (q .1 rows (q .0)) in λ i. (record { answer = e i .answer; join = e i .state .join }, (e i .state .inA, e i .state .inB))
+-- A mark and a close are told of the queue only how many pairs wait: they leave what they leave for any places that hold so many, and there are such.
+blanks-hold : (waiting : Queue) → waiting .count ≤ queue.places → queue.Holds waiting (queue.rowsOf (replicate (waiting .count) (pairIn [])))
+blanks-hold waiting few =
+    stores-stored pairIn pairNumbers queue.places 8 pair-numbers (replicate (waiting .count) (pairIn [])) (waiting .count) (length-replicate (waiting .count) (pairIn [])) few
 
-one-close-on : (rows : Rows) → OneOutcome {Seen = Called × (Rows × Rows)} (λ κs r left. (r, (now (left .1 .0), now (left .1 .1 .0)))) (λ κs args r left. Sound (stateWith (args .0) (now (args .1 .0)) (now (args .1 .1 .0)) rows) × close-on.Post κs args r left)
-one-close-on rows κs args x y left other p q = let e = agree (p .1 rows (p .0)) (q .1 rows (q .0)) in λ i. (record { answer = e i .answer; join = e i .state .join }, (e i .state .inA, e i .state .inB))
+one-moved : (waiting : Queue) → waiting .count ≤ queue.places → (x y : Called) (a b a′ b′ : Rows) (z : Rows → Outcome Answer)
+    → ((rows : Rows) → queue.Holds waiting rows → outcome (x .answer) (stateWith (x .join) a b rows) ≡ z rows)
+    → ((rows : Rows) → queue.Holds waiting rows → outcome (y .answer) (stateWith (y .join) a′ b′ rows) ≡ z rows)
+    → _≡_ {A = Called × (Rows × Rows)} (x, (a, b)) (y, (a′, b′))
+one-moved waiting few x y a b a′ b′ z p q =
+    let rows = queue.rowsOf (replicate (waiting .count) (pairIn [])) in
+    let e = agree (p rows (blanks-hold waiting few)) (q rows (blanks-hold waiting few)) in
+    λ i. (record { answer = e i .answer; join = e i .state .join }, (e i .state .inA, e i .state .inB))
+
+one-mark-on : OneOutcome {Seen = Called × (Rows × Rows)} (λ κs r left. (r, (now (left .1 .0), now (left .1 .1 .0)))) (λ κs args r left. mark-on.Pre κs args × mark-on.Post κs args r left)
+one-mark-on κs args x y left other p q = one-moved (args .0 .queue) (p .0 .2) x y _ _ _ _ _ (p .1) (q .1)
+
+one-close-on : OneOutcome {Seen = Called × (Rows × Rows)} (λ κs r left. (r, (now (left .1 .0), now (left .1 .1 .0)))) (λ κs args r left. close-on.Pre κs args × close-on.Post κs args r left)
+one-close-on κs args x y left other p q = one-moved (args .0 .queue) (p .0 .2) x y _ _ _ _ _ (p .1) (q .1)
 
 one-take-on : OneOutcome {Seen = Taken × Rows} (λ κs r left. (r, now (left .1 .0))) take-on.Post
 one-take-on κs args x y left other p q = let e = agree (p [] []) (q [] []) in λ i. (record { answer = e i .answer; join = e i .state .join }, e i .state .rows)

@@ -341,7 +341,7 @@ impl Join {
     // The gate of a side moved, and the other side's area cleared by it.
     fn move_on(self, a: &mut area::Places, b: &mut area::Places, side: Side, gate: Gate) -> Join
         requires { ⌜ (the_area.Holds (self .a .area) (now a)) × (the_area.Holds (self .b .area) (now b)) ⌝ }
-        ensures { λ r. ⌜ ((rows : Rows) → Sound (stateWith self (now (a .entry)) (now (b .entry)) rows) → stateWith r (now (a .exit)) (now (b .exit)) rows ≡ stateOf side (afterMove gate (view side (stateWith self (now (a .entry)) (now (b .entry)) rows)))) ⌝ }
+        ensures { λ r. ⌜ ((rows : Rows) → the_queue.Holds (self .queue) rows → stateWith r (now (a .exit)) (now (b .exit)) rows ≡ stateOf side (afterMove gate (view side (stateWith self (now (a .entry)) (now (b .entry)) rows)))) ⌝ }
     {
         let rule = self.rule;
         let half_a = self.a;
@@ -380,8 +380,8 @@ impl Join {
         side: Side,
         time: u32,
     ) -> Called
-        requires { ⌜ (the_area.Holds (self .a .area) (now a)) × (the_area.Holds (self .b .area) (now b)) ⌝ }
-        ensures { λ r. ⌜ ((rows : Rows) → Sound (stateWith self (now (a .entry)) (now (b .entry)) rows) → outcome (r .answer) (stateWith (r .join) (now (a .exit)) (now (b .exit)) rows) ≡ markOn (stateWith self (now (a .entry)) (now (b .entry)) rows) side time) ⌝ }
+        requires { ⌜ (the_area.Holds (self .a .area) (now a)) × (the_area.Holds (self .b .area) (now b)) × (self .queue .count ≤ the_queue.places) ⌝ }
+        ensures { λ r. ⌜ ((rows : Rows) → the_queue.Holds (self .queue) rows → outcome (r .answer) (stateWith (r .join) (now (a .exit)) (now (b .exit)) rows) ≡ markOn (stateWith self (now (a .entry)) (now (b .entry)) rows) side time) ⌝ }
     {
         let journal = self.journal_of(side);
         let marked = journal.mark(time);
@@ -394,8 +394,8 @@ impl Join {
     }
 
     pub fn close_on(self, a: &mut area::Places, b: &mut area::Places, side: Side) -> Called
-        requires { ⌜ (the_area.Holds (self .a .area) (now a)) × (the_area.Holds (self .b .area) (now b)) ⌝ }
-        ensures { λ r. ⌜ ((rows : Rows) → Sound (stateWith self (now (a .entry)) (now (b .entry)) rows) → outcome (r .answer) (stateWith (r .join) (now (a .exit)) (now (b .exit)) rows) ≡ closeOn (stateWith self (now (a .entry)) (now (b .entry)) rows) side) ⌝ }
+        requires { ⌜ (the_area.Holds (self .a .area) (now a)) × (the_area.Holds (self .b .area) (now b)) × (self .queue .count ≤ the_queue.places) ⌝ }
+        ensures { λ r. ⌜ ((rows : Rows) → the_queue.Holds (self .queue) rows → outcome (r .answer) (stateWith (r .join) (now (a .exit)) (now (b .exit)) rows) ≡ closeOn (stateWith self (now (a .entry)) (now (b .entry)) rows) side) ⌝ }
     {
         let journal = self.journal_of(side);
         let gate = journal.gate;

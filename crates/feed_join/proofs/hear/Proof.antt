@@ -47,13 +47,13 @@ returns-2 : tie.Need-returns-2
 returns-2 c =
     let st = c .before .before .before .before .before .before .before in
     let s = stateWith (st .args .join) (st .args .a .now) (st .args .b .now) (st .args .rows .now) in
-    c .mark-on .ensures (st .args .rows .now) (st .pre .0) ∙ heard-mark s (st .pre .0) (st .args .«record») (st .pre .1) _ _ (c .before .before .before .before .before .record2 .given .1) _ (c .before .side-of2 .ensures)
+    c .mark-on .ensures (st .args .rows .now) (st .pre .0 .holdsQueue) ∙ heard-mark s (st .pre .0) (st .args .«record») (st .pre .1) _ _ (c .before .before .before .before .before .record2 .given .1) _ (c .before .side-of2 .ensures)
 
 returns-3 : tie.Need-returns-3
 returns-3 c =
     let st = c .before .before .before .before .before .before .before in
     let s = stateWith (st .args .join) (st .args .a .now) (st .args .b .now) (st .args .rows .now) in
-    c .close-on .ensures (st .args .rows .now) (st .pre .0) ∙ heard-close s (st .pre .0) (st .args .«record») (st .pre .1) _ (c .before .before .before .before .before .record3 .given .1) _ (c .before .side-of3 .ensures)
+    c .close-on .ensures (st .args .rows .now) (st .pre .0 .holdsQueue) ∙ heard-close s (st .pre .0) (st .args .«record») (st .pre .1) _ (c .before .before .before .before .before .record3 .given .1) _ (c .before .side-of3 .ensures)
 
 returns-4 : tie.Need-returns-4
 returns-4 c =

@@ -38,7 +38,7 @@ returns c =
     let merged = left .before .before in
     let st = merged .before .before .before .before .before .before .before in (
       refl,
-      admitted (st .args .rule) (st .args .side) (st .args .own) (st .args .other) (st .args .waiting) (st .args .mine .now) (st .args .others .now) (st .args .rows .now) (st .pre .0) (st .args .e)
+      admitted (st .args .rule) (st .args .side) (st .args .own) (st .args .other) (st .args .waiting) (st .args .mine .now) (st .args .others .now) (st .args .rows .now) (st .pre .0 .holds-mine) (st .pre .0 .holds-others) (st .pre .0 .holds-rows) (st .args .e)
           (c .with .result) (kept .hold-wanted .result) (left .clear .result) (merged .merge .result) (kept .hold-wanted .last .1 .0) (left .clear .last .1 .0) (merged .merge .last .1 .0)
           (c .with .ensures) (kept .hold-wanted .ensures .0) (kept .hold-wanted .ensures .1) (left .clear .ensures .0) (left .clear .ensures .1) (merged .merge .ensures .0) (merged .merge .ensures .1),
     )

@@ -33,8 +33,8 @@ returns c =
     let first = asked .entry-answer .result in
     let refused = c .enum-told2 .given in
     let v = seen (st .args .rule) (st .args .own) (st .args .other) (st .args .waiting) (st .args .mine .now) (st .args .others .now) (st .args .rows .now) in (
-      answer-first (st .args .rule) (st .args .side) (st .args .own) (st .args .other) (st .args .waiting) (st .args .mine .now) (st .args .others .now) (st .args .rows .now) (st .pre) (st .args .e) first _ (asked .entry-answer .ensures) (refused .1),
-      subst (λ (a : Answer). Leaves (unlessRefused a (afterEntry (st .args .side) v (st .args .e)) v) (st .args .own) (st .args .other) (st .args .waiting) (st .args .mine .now) (st .args .others .now) (st .args .rows .now)) (sym (refused .1)) (leaves-all (st .args .rule) (st .args .side) (st .args .own) (st .args .other) (st .args .waiting) (st .args .mine .now) (st .args .others .now) (st .args .rows .now) (st .pre)),
+      answer-first (st .args .rule) (st .args .side) (st .args .own) (st .args .other) (st .args .waiting) (st .args .mine .now) (st .args .others .now) (st .args .rows .now) (st .pre .holds-mine) (st .pre .holds-others) (st .pre .holds-rows) (st .args .e) first _ (asked .entry-answer .ensures) (refused .1),
+      subst (λ (a : Answer). Leaves (unlessRefused a (afterEntry (st .args .side) v (st .args .e)) v) (st .args .own) (st .args .other) (st .args .waiting) (st .args .mine .now) (st .args .others .now) (st .args .rows .now)) (sym (refused .1)) (leaves-all (st .args .rule) (st .args .side) (st .args .own) (st .args .other) (st .args .waiting) (st .args .mine .now) (st .args .others .now) (st .args .rows .now) (st .pre .holds-mine) (st .pre .holds-others) (st .pre .holds-rows)),
     )
 
 partners-requires : tie.Need-partners-requires
@@ -67,7 +67,7 @@ returns-2 c =
     let st = asked .before .before in
     let n = length (partners (st .args .rule) (st .args .e) (held (st .args .other .area) (st .args .others .now))) in
     let full : places < st .args .waiting .count + n = omega (arith, counted .partners .ensures, c .if1 .taken) in
-    (answer-full (st .args .rule) (st .args .side) (st .args .own) (st .args .other) (st .args .waiting) (st .args .mine .now) (st .args .others .now) (st .args .rows .now) (st .pre) (st .args .e) (asked .entry-answer .result) (asked .entry-answer .ensures) (told .enum-told .given .1) full, leaves-all (st .args .rule) (st .args .side) (st .args .own) (st .args .other) (st .args .waiting) (st .args .mine .now) (st .args .others .now) (st .args .rows .now) (st .pre))
+    (answer-full (st .args .rule) (st .args .side) (st .args .own) (st .args .other) (st .args .waiting) (st .args .mine .now) (st .args .others .now) (st .args .rows .now) (st .pre .holds-mine) (st .pre .holds-others) (st .pre .holds-rows) (st .args .e) (asked .entry-answer .result) (asked .entry-answer .ensures) (told .enum-told .given .1) full, leaves-all (st .args .rule) (st .args .side) (st .args .own) (st .args .other) (st .args .waiting) (st .args .mine .now) (st .args .others .now) (st .args .rows .now) (st .pre .holds-mine) (st .pre .holds-others) (st .pre .holds-rows))
 
 admit-requires : tie.Need-admit-requires
 admit-requires c κs =
@@ -88,7 +88,7 @@ returns-3 c =
     let st = asked .before .before in
     let n = length (partners (st .args .rule) (st .args .e) (held (st .args .other .area) (st .args .others .now))) in
     let fits : st .args .waiting .count + n ≤ places = omega (arith, counted .partners .ensures, room .if1 .left) in (
-      c .admit .ensures .0 ∙ answer-accepted (st .args .rule) (st .args .side) (st .args .own) (st .args .other) (st .args .waiting) (st .args .mine .now) (st .args .others .now) (st .args .rows .now) (st .pre) (st .args .e) (asked .entry-answer .result) (asked .entry-answer .ensures) (told .enum-told .given .1) fits,
+      c .admit .ensures .0 ∙ answer-accepted (st .args .rule) (st .args .side) (st .args .own) (st .args .other) (st .args .waiting) (st .args .mine .now) (st .args .others .now) (st .args .rows .now) (st .pre .holds-mine) (st .pre .holds-others) (st .pre .holds-rows) (st .args .e) (asked .entry-answer .result) (asked .entry-answer .ensures) (told .enum-told .given .1) fits,
       rw (c .admit .ensures .0) (c .admit .ensures .1),
     )
 

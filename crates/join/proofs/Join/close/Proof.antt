@@ -35,7 +35,7 @@ side-of-requires c κs = search needs
 close-on-requires : tie.Need-close-on-requires
 close-on-requires c κs =
     let ok = c .before .before .before .before .before .sound .ensures .1 (not-false _ (c .before .before .before .before .if1 .left)) in
-    (ok .holdsA, ok .holdsB)
+    (ok .holdsA, ok .holdsB, ok .holdsQueue .few)
 
 returns-3 : tie.Need-returns-3
 unfolding closeCall
@@ -43,7 +43,7 @@ returns-3 c =
     let st = c .before .before .before .before .before .before .before .before .before in
     let s = (stateWith (st .args .self) (st .args .a .now) (st .args .b .now) (st .args .rows .now)) in
     let side = sideOf (st .args .stream) in
-    c .close-on .ensures (st .args .rows .now) (c .before .before .before .before .before .before .sound .ensures .1 (not-false _ (c .before .before .before .before .before .if1 .left)))
+    c .close-on .ensures (st .args .rows .now) (c .before .before .before .before .before .before .sound .ensures .1 (not-false _ (c .before .before .before .before .before .if1 .left)) .holdsQueue)
     ∙ ap (λ (x : Side). closeOn s x) (c .before .side-of .ensures)
     ∙ judged-sound s (st .args .stream) (closeRows (view side s)) (stateOf side (afterMove Closed (view side s))) (sym (c .before .before .before .before .before .before .sound .ensures .0) ∙ not-false _ (c .before .before .before .before .before .if1 .left)) (c .before .before .before .before .if2 .left)
 

@@ -20,7 +20,7 @@ closed-requires c κs = search needs
 returns : tie.Need-returns
 returns c =
     let st = c .before .before .before in
-    λ rows ok.
+    λ rows q.
     let s = (stateWith (st .args .self) (st .args .a .now) (st .args .b .now) rows) in
     let closed = sym (ap (λ (j : Journal). isClosed (j .gate)) (c .before .before .journal-of .ensures ∙ sym (view-own (st .args .side) s))) ∙ sym (c .before .closed .ensures) ∙ c .if1 .taken in
     called-refused s (closeRows (view (st .args .side) s)) (stateOf (st .args .side) (afterMove Closed (view (st .args .side) s))) (Refused 2) (rw closed) 2 refl
@@ -31,10 +31,10 @@ move-on-requires c κs = search needs
 returns-2 : tie.Need-returns-2
 returns-2 c =
     let st = c .before .before .before .before .before .before in
-    λ rows ok.
+    λ rows q.
     let s = (stateWith (st .args .self) (st .args .a .now) (st .args .b .now) rows) in
     let closed = sym (ap (λ (j : Journal). isClosed (j .gate)) (c .before .before .before .before .before .journal-of .ensures ∙ sym (view-own (st .args .side) s))) ∙ sym (c .before .before .before .before .closed .ensures) ∙ c .before .before .before .if1 .left in
-    called-accepted s (closeRows (view (st .args .side) s)) (stateOf (st .args .side) (afterMove Closed (view (st .args .side) s))) Accepted (rw closed) _ refl (c .move-on .ensures rows ok)
+    called-accepted s (closeRows (view (st .args .side) s)) (stateOf (st .args .side) (afterMove Closed (view (st .args .side) s))) Accepted (rw closed) _ refl (c .move-on .ensures rows q)
 
 pub close-on-spec : {M : Type 1} → statement M
 close-on-spec =

@@ -36,7 +36,7 @@ side-of-requires c κs = search needs
 mark-on-requires : tie.Need-mark-on-requires
 mark-on-requires c κs =
     let ok = c .before .before .before .before .before .sound .ensures .1 (not-false _ (c .before .before .before .before .if1 .left)) in
-    (ok .holdsA, ok .holdsB)
+    (ok .holdsA, ok .holdsB, ok .holdsQueue .few)
 
 returns-3 : tie.Need-returns-3
 unfolding markCall
@@ -44,7 +44,7 @@ returns-3 c =
     let st = c .before .before .before .before .before .before .before .before .before in
     let s = (stateWith (st .args .self) (st .args .a .now) (st .args .b .now) (st .args .rows .now)) in
     let side = sideOf (st .args .stream) in
-    c .mark-on .ensures (st .args .rows .now) (c .before .before .before .before .before .before .sound .ensures .1 (not-false _ (c .before .before .before .before .before .if1 .left)))
+    c .mark-on .ensures (st .args .rows .now) (c .before .before .before .before .before .before .sound .ensures .1 (not-false _ (c .before .before .before .before .before .if1 .left)) .holdsQueue)
     ∙ ap (λ (x : Side). markOn s x (st .args .time)) (c .before .side-of .ensures)
     ∙ judged-sound s (st .args .stream) (markRows (st .args .time) (view side s .own)) (stateOf side (afterMove (Open (st .args .time)) (view side s))) (sym (c .before .before .before .before .before .before .sound .ensures .0) ∙ not-false _ (c .before .before .before .before .before .if1 .left)) (c .before .before .before .before .if2 .left)
 

@@ -29,7 +29,7 @@ returns c =
     let asked = c .before .before in
     let st = asked .before .before in
     let answered = ap (λ (m : Marked). m .answer) (asked .mark .ensures) in
-    λ rows ok.
+    λ rows q.
     let s = (stateWith (st .args .self) (st .args .a .now) (st .args .b .now) rows) in
     called-refused s (markRows (st .args .time) (view (st .args .side) s .own)) (stateOf (st .args .side) (afterMove (Open (st .args .time)) (view (st .args .side) s))) (asked .mark .result .answer)
     (answered ∙ ap (λ (j : Journal). firstOf (markRows (st .args .time) j)) (asked .before .journal-of .ensures ∙ sym (view-own (st .args .side) s))) _ (c .enum-told2 .given .1)
@@ -43,10 +43,10 @@ returns-2 c =
     let asked = told .before .before in
     let st = asked .before .before in
     let answered = ap (λ (m : Marked). m .answer) (asked .mark .ensures) in
-    λ rows ok.
+    λ rows q.
     let s = (stateWith (st .args .self) (st .args .a .now) (st .args .b .now) rows) in
     called-accepted s (markRows (st .args .time) (view (st .args .side) s .own)) (stateOf (st .args .side) (afterMove (Open (st .args .time)) (view (st .args .side) s))) (asked .mark .result .answer)
-    (answered ∙ ap (λ (j : Journal). firstOf (markRows (st .args .time) j)) (asked .before .journal-of .ensures ∙ sym (view-own (st .args .side) s))) _ (told .enum-told .given .1) (c .move-on .ensures rows ok)
+    (answered ∙ ap (λ (j : Journal). firstOf (markRows (st .args .time) j)) (asked .before .journal-of .ensures ∙ sym (view-own (st .args .side) s))) _ (told .enum-told .given .1) (c .move-on .ensures rows q)
 
 pub mark-on-spec : {M : Type 1} → statement M
 mark-on-spec =

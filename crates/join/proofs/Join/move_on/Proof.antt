@@ -24,7 +24,7 @@ returns c =
     let st = told .before .before .before .before .before in
     let r = shifted .shift .result in
     let e = shifted .shift .ensures in
-    λ rows ok. moved-a (stateWith (st .args .self) (st .args .a .now) (st .args .b .now) rows) ok (st .args .gate) (r .own) (r .other) (shifted .shift .last .1 .1 .0) (st .args .side) (told .enum-told .given .1) (e .0 .0) (e .0 .1) (e .0 .2) (e .1)
+    λ rows q. moved-a (stateWith (st .args .self) (st .args .a .now) (st .args .b .now) rows) (st .pre .0) (st .pre .1) q (st .args .gate) (r .own) (r .other) (shifted .shift .last .1 .1 .0) (st .args .side) (told .enum-told .given .1) (e .0 .0) (e .0 .1) (e .0 .2) (e .1)
 
 returns-2 : tie.Need-returns-2
 returns-2 c =
@@ -33,7 +33,7 @@ returns-2 c =
     let st = told .before .before .before .before .before in
     let r = shifted .shift2 .result in
     let e = shifted .shift2 .ensures in
-    λ rows ok. moved-b (stateWith (st .args .self) (st .args .a .now) (st .args .b .now) rows) ok (st .args .gate) (r .own) (r .other) (shifted .shift2 .last .1 .1 .0) (st .args .side) (told .enum-told2 .given .1) (e .0 .0) (e .0 .1) (e .0 .2) (e .1)
+    λ rows q. moved-b (stateWith (st .args .self) (st .args .a .now) (st .args .b .now) rows) (st .pre .0) (st .pre .1) q (st .args .gate) (r .own) (r .other) (shifted .shift2 .last .1 .1 .0) (st .args .side) (told .enum-told2 .given .1) (e .0 .0) (e .0 .1) (e .0 .2) (e .1)
 
 pub move-on-spec : {M : Type 1} → statement M
 move-on-spec =
