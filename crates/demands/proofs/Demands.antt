@@ -1,12 +1,15 @@
--- Demands 2 and 3 hold of every run of a fresh join.
-use Prim.Native.Nat.{ℕ}
+-- The demands hold of every run of a fresh join.
+use Prim.Native.Nat.{ℕ, _≤_}
 use native.Mathlib.Omega.{arith}
 use mathlib.Core.Bool.{Bool, true, false, cond, true≢false}
 use mathlib.Core.List.{List, [], _∷_, _++_, append-assoc, append-nil}
 use mathlib.Core.Path.{_≡_, refl, sym, ap, ap₂, _∙_}
+use lib.Dec.{leb}
+use borrow.Author.Tests.{le-leb}
 use Rattle.lists.specs.Keep.{keep}
 use Rattle.lists.proofs.All.{All, all-map}
 use Rattle.lists.proofs.Bools.{and-left, and-right}
+use Rattle.lists.proofs.Judge.{all-allOf}
 use Rattle.lists.proofs.Keep.{keep-append, keep-all}
 use Rattle.pairing.specs.declared.Entry.{Entry}
 use Rattle.pairing.specs.declared.Pair.{Pair}
@@ -17,15 +20,17 @@ use Rattle.pairing.specs.Plain.{plain}
 use Rattle.pairing.proofs.Plain.{plain-at}
 use Rattle.journal.specs.declared.Answer.{Answer}
 use Rattle.journal.specs.declared.Answer.the-variants as answer
+use Rattle.journal.specs.declared.Gate.the-variants.{Open}
 use Rattle.journal.specs.Journal.{isClosed, markRows}
 use Rattle.journal.proofs.Rows.{accepted-rows}
 use Rattle.queue.specs.Queue.{ready}
 use Rattle.join.specs.declared.Took.the-variants.{Handed, Waiting, Finished, Refused}
 use Rattle.join.specs.State.{State, view, sound}
-use Rattle.join.specs.Calls.{sideOf, entryRows, judgeRows, closeRows, entryCall, markCall, closeCall, takeCall, takeOn, nextOf, waitingIn, readyIn, bothClosed}
-use Rattle.demands.specs.Demands.{pairsOf, EachInstant, Joins, TermsOnce, Multiplies, HoldsWanted, CountsAccepted, plainOf, FirstStretch, BelowClocks, Whole, FinishedWhole, NoMore, OnlyTakes, Agree, Demands, ran}
+use Rattle.join.specs.Calls.{sideOf, entryRows, judgeRows, closeRows, afterMove, entryCall, markCall, closeCall, takeCall, takeOn, nextOf, waitingIn, readyIn, bothClosed}
+use Rattle.join.proofs.View.{view-stateOf}
+use Rattle.demands.specs.Demands.{pairsOf, EachInstant, Joins, TermsOnce, Multiplies, HoldsWanted, CountsAccepted, plainOf, FirstStretch, BelowClocks, Whole, FinishedWhole, NoMore, OnlyTakes, Agree, RuleStays, acceptedOf, StartsFrom, Demands, ran}
 use Rattle.demands.specs.History.{Call, Enter, Mark, Close, Take, World, begin, step, run, isRefusal}
-use Rattle.demands.proofs.Follows.{Follows, follows-run}
+use Rattle.demands.proofs.Follows.{Follows, entered-closed, follows-run, entered-side}
 use Rattle.demands.proofs.Invariant as invariant
 use Rattle.demands.proofs.Invariant.{Due, GoodWorld, began}
 use Rattle.demands.proofs.Refused.{run-heeded}
@@ -105,6 +110,10 @@ module _ (rule : Rule) (w : World) (g : GoodWorld rule w) where
   unfolding view
   listed = g .listed
 
+  rule-stays : RuleStays rule w
+  unfolding view
+  rule-stays = g .ruled
+
   each-instant : EachInstant rule w
   each-instant t = rw listed (plain-at t rule (w .ofA) (w .ofB))
 
@@ -152,7 +161,10 @@ module _ (rule : Rule) (w : World) (g : GoodWorld rule w) where
 
     no-more : NoMore w later
     unfolding view
-    no-more = (f .shut, f .shutOther)
+    no-more = (
+      λ c. entered-closed (w .state .join .a .journal .gate) (w .ofA) (later .ofA) c (f .entered),
+      λ c. entered-closed (w .state .join .b .journal .gate) (w .ofB) (later .ofB) c (f .enteredOther),
+    )
 
     whole : Whole rule w later
     whole closed empty =
@@ -166,6 +178,31 @@ module _ (rule : Rule) (w : World) (g : GoodWorld rule w) where
 agree : (rule : Rule) (v w : World) → GoodWorld rule v → GoodWorld rule w → Agree v w
 agree rule v w g k a b e f = emptied rule v g e ∙ ap₂ (λ (x y : List Entry). plain rule x y) a b ∙ sym (emptied rule w k f)
 
+-- ---- an accepted mark
+
+-- its journal's clock is its time
+marked-clock : (s : State) (stream time : ℕ) → markCall s stream time .answer ≡ answer.Accepted → view (sideOf stream) (markCall s stream time .state) .own .gate ≡ Open time
+unfolding markCall afterMove
+marked-clock s stream time h = let side = sideOf stream in rw (h, view-stateOf side (afterMove (Open time) (view side s)))
+
+-- it brings no entry
+marked-none : (side : Side) (w : World) (stream time : ℕ) → acceptedOf side (step w (Mark stream time)) ≡ acceptedOf side w
+marked-none A w stream time = append-nil (w .ofA)
+marked-none B w stream time = append-nil (w .ofB)
+
+mark-promises : (w : World) (more : List Call) (stream time : ℕ) → markCall (w .state) stream time .answer ≡ answer.Accepted → StartsFrom time (sideOf stream) w (run w (Mark stream time ∷ more))
+mark-promises w more stream time h =
+    let side = sideOf stream in
+    let v = step w (Mark stream time) in
+    let (since, (longer, ahead)) = rw (marked-clock (w .state) stream time h, marked-none side w stream time) at (entered-side side v (run v more) (follows-run v more)) in (
+      since,
+      (
+        longer,
+        all-allOf (λ (e : Entry). leb time (e .span .start)) since
+            (all-map (λ (e : Entry). time ≤ e .span .start) (λ (e : Entry). leb time (e .span .start) ≡ true) (λ e k. le-leb time (e .span .start) k) since ahead),
+      ),
+    )
+
 pub demands : (rule : Rule) (calls more : List Call) → Demands rule calls more
 demands rule calls more =
     let w = ran rule calls in
@@ -174,6 +211,8 @@ demands rule calls more =
     let k = invariant.ran rule (begin rule) (calls ++ more) (began rule) in
     let f : Follows w later = rw (run-append (begin rule) calls more) (follows-run w more) in
     record {
+      ruleStays = rule-stays rule w g;
+      markPromises = λ stream time h. rw (run-append (begin rule) calls (Mark stream time ∷ more)) (mark-promises w more stream time h);
       unrefused = run-heeded (begin rule) calls;
       eachInstant = each-instant rule w g;
       joins = joins rule w g;

@@ -1,4 +1,4 @@
--- What a later moment of a run keeps of an earlier one: clocks only move on, what was handed out stays handed out, nothing new starts below the clocks, and a closed journal brings no more.
+-- What a later moment of a run keeps of an earlier one: clocks only move on, what was handed out stays handed out, nothing new starts below the clocks, neither pairs nor entries, and a closed journal brings no more.
 use Prim.Native.Nat.{ℕ, _≤_}
 use mathlib.Core.Bool.{Bool, true, false, cond, _&&_, false≢true}
 use mathlib.Core.List.{List, [], _∷_, _++_, append-assoc, append-nil, IsPrefix}
@@ -6,7 +6,7 @@ use mathlib.Core.Path.{_≡_, refl, sym, ap, _∙_}
 use lib.ListN.{drop}
 use Rattle.lists.specs.Keep.{keep}
 use Rattle.lists.specs.Sort.{insertAllBy}
-use Rattle.lists.proofs.All.{all-map}
+use Rattle.lists.proofs.All.{All, all-map, all-append}
 use Rattle.lists.proofs.Bools.{and-left, and-right}
 use Rattle.lists.proofs.Keep.{keep-append, keep-keep, keep-same-test}
 use Rattle.lists.proofs.Sort.{keep-insertAllBy}
@@ -25,11 +25,39 @@ use Rattle.queue.specs.Queue.{ready}
 use Rattle.join.specs.declared.Took.the-variants as took
 use Rattle.join.specs.State.{State, View, view, stateOf, sound}
 use Rattle.join.specs.Calls.{sideOf, arrival, formed, afterEntry, afterMove, entryCall, markCall, closeCall, takeCall, takeOn, waitingIn, readyIn, bothClosed, nextOf, without, afterTake}
+use Rattle.demands.specs.Demands.{acceptedOf}
 use Rattle.demands.specs.History.{Call, Enter, Mark, Close, Take, ofSide, handedBy, World, step, run}
-use Rattle.journal.proofs.Onward.{Onward, onward-same, onward-trans, onward-closed, below-onward, below-ahead, closed-onward}
+use Rattle.journal.proofs.Onward.{Onward, onward-same, onward-trans, onward-closed, below-onward, below-ahead}
 use Rattle.demands.proofs.Invariant.{new-starts, entry-later, mark-later}
 use Rattle.queue.proofs.Sound.{waiting-stored}
 use Rattle.join.proofs.View.{view-stateOf, turned, view-across}
+
+-- ---- entries that come while a gate moves
+
+-- those that come after some each start where the gate could move to
+abbrev pub Entered : Gate → List Entry → List Entry → Type 0
+Entered gate es later = (new : List Entry) × ((es ++ new ≡ later) × All (λ (e : Entry). Onward gate (Open (e .span .start))) new)
+
+entered-none : (gate : Gate) (es : List Entry) → Entered gate es es
+entered-none gate es = ([], (append-nil es, tt))
+
+entered-trans : (gate next : Gate) → Onward gate next → (es fs gs : List Entry) → Entered gate es fs → Entered next fs gs → Entered gate es gs
+entered-trans gate next l es fs gs (new, (e, h)) (more, (f, k)) =
+    let from : Gate → Entry → Type 0 = λ g x. Onward g (Open (x .span .start)) in (
+      new ++ more,
+      (
+        sym (append-assoc es new more) ∙ ap (λ (xs : List Entry). xs ++ more) e ∙ f,
+        all-append (from gate) new more h (all-map (from next) (from gate) (λ x. onward-trans gate next (Open (x .span .start)) l) more k),
+      ),
+    )
+
+-- none comes where it is closed
+pub entered-closed : (gate : Gate) (es later : List Entry) → isClosed gate ≡ true → Entered gate es later → later ≡ es
+entered-closed (Open clock) es later c h = absurd (false≢true c)
+entered-closed Closed es later c ([], (e, h)) = sym e ∙ append-nil es
+entered-closed Closed es later c (x ∷ new, (e, h)) = absurd (h .0)
+
+-- ---- moments
 
 -- a moment of a run, as a side sees it
 pub record Moment : Type 0 where
@@ -46,8 +74,8 @@ pub record After (m n : Moment) : Type 0 where
   pub clockOther : Onward (m .seen .other .gate) (n .seen .other .gate)
   pub longer : IsPrefix (m .out) (n .out)
   pub still : keep (readyThen m) (n .out ++ n .seen .waiting) ≡ keep (readyThen m) (m .out ++ m .seen .waiting)
-  pub shut : isClosed (m .seen .own .gate) ≡ true → n .own ≡ m .own
-  pub shutOther : isClosed (m .seen .other .gate) ≡ true → n .other ≡ m .other
+  pub entered : Entered (m .seen .own .gate) (m .own) (n .own)
+  pub enteredOther : Entered (m .seen .other .gate) (m .other) (n .other)
 
 ready-later : (g h g′ h′ : Gate) → Onward g g′ → Onward h h′ → (p : Pair) → ready g h p ≡ true → ready g′ h′ p ≡ true
 unfolding ready
@@ -61,8 +89,8 @@ after-refl m = record {
   clockOther = onward-same (m .seen .other .gate);
   longer = ([], append-nil (m .out));
   still = refl;
-  shut = λ e. refl;
-  shutOther = λ e. refl;
+  entered = entered-none (m .seen .own .gate) (m .own);
+  enteredOther = entered-none (m .seen .other .gate) (m .other);
 }
 
 after-trans : (m n o : Moment) → After m n → After n o → After m o
@@ -71,8 +99,8 @@ after-trans m n o p q = record {
   clockOther = onward-trans (m .seen .other .gate) (n .seen .other .gate) (o .seen .other .gate) (p .clockOther) (q .clockOther);
   longer = (p .longer .0 ++ q .longer .0, sym (append-assoc (m .out) (p .longer .0) (q .longer .0)) ∙ ap (λ (l : List Pair). l ++ q .longer .0) (p .longer .1) ∙ q .longer .1);
   still = sym (both (o .out ++ o .seen .waiting)) ∙ ap (keep (readyThen m)) (q .still) ∙ both (n .out ++ n .seen .waiting) ∙ p .still;
-  shut = λ e. q .shut (closed-onward (m .seen .own .gate) (n .seen .own .gate) (p .clock) e) ∙ p .shut e;
-  shutOther = λ e. q .shutOther (closed-onward (m .seen .other .gate) (n .seen .other .gate) (p .clockOther) e) ∙ p .shutOther e;
+  entered = entered-trans (m .seen .own .gate) (n .seen .own .gate) (p .clock) (m .own) (n .own) (o .own) (p .entered) (q .entered);
+  enteredOther = entered-trans (m .seen .other .gate) (n .seen .other .gate) (p .clockOther) (m .other) (n .other) (o .other) (p .enteredOther) (q .enteredOther);
 }
   where
     both : (l : List Pair) → keep (readyThen m) (keep (readyThen n) l) ≡ keep (readyThen m) l
@@ -87,13 +115,9 @@ after-move m gate l = record {
   clockOther = onward-same (m .seen .other .gate);
   longer = ([], append-nil (m .out));
   still = refl;
-  shut = λ e. refl;
-  shutOther = λ e. refl;
+  entered = entered-none (m .seen .own .gate) (m .own);
+  enteredOther = entered-none (m .seen .other .gate) (m .other);
 }
-
-open-not-shut : (g : Gate) (t : ℕ) → Onward g (Open t) → isClosed g ≡ true → ⊥
-open-not-shut (Open c) t l e = false≢true e
-open-not-shut Closed t l e = l
 
 after-enter : (side : Side) (m : Moment) (e : Entry) → Onward (m .seen .own .gate) (Open (e .span .start))
     → After m (record { seen = afterEntry side (m .seen) e; own = m .own ++ (e ∷ []); other = m .other; out = m .out })
@@ -110,8 +134,8 @@ after-enter side m e l =
       still = keep-append (readyThen m) (m .out) (insertAllBy comesBefore new (m .seen .waiting))
           ∙ ap (λ (r : List Pair). keep (readyThen m) (m .out) ++ r) (keep-insertAllBy comesBefore (readyThen m) new (m .seen .waiting) hidden)
           ∙ sym (keep-append (readyThen m) (m .out) (m .seen .waiting));
-      shut = λ k. absurd (open-not-shut (m .seen .own .gate) (e .span .start) l k);
-      shutOther = λ k. refl;
+      entered = (e ∷ [], (refl, (l, tt)));
+      enteredOther = entered-none (m .seen .other .gate) (m .other);
     }
 
 -- ---- moments of a world
@@ -139,8 +163,8 @@ turn-back m n p = record {
   clockOther = p .clock;
   longer = p .longer;
   still = sym (keep-same-test (readyThen (turn m)) (readyThen m) (ready-turned m) (n .out ++ n .seen .waiting)) ∙ p .still ∙ keep-same-test (readyThen (turn m)) (readyThen m) (ready-turned m) (m .out ++ m .seen .waiting);
-  shut = p .shutOther;
-  shutOther = p .shut;
+  entered = p .enteredOther;
+  enteredOther = p .entered;
 }
 
 -- what follows as one side sees it
@@ -175,8 +199,8 @@ module _ (s : State) (ofA ofB : List Entry) (out : List Pair) where
         clockOther = onward-same (s .join .b .journal .gate);
         longer = (p ∷ [], refl);
         still = ap (keep (readyIn s)) whole;
-        shut = λ k. refl;
-        shutOther = λ k. refl;
+        entered = entered-none (s .join .a .journal .gate) ofA;
+        enteredOther = entered-none (s .join .b .journal .gate) ofB;
       }
 
   taken : (ps : List Pair) → waitingIn s ≡ ps → Next A s ofA ofB out (afterTake (nextOf (readyIn s) (bothClosed s) ps) s) ofA ofB (out ++ handedBy (nextOf (readyIn s) (bothClosed s) ps))
@@ -228,3 +252,9 @@ follows-step w Take = rw (append-nil (w .ofA), append-nil (w .ofB)) (takes (w .s
 pub follows-run : (w : World) (calls : List Call) → Follows w (run w calls)
 follows-run w [] = after-refl (moment w)
 follows-run w (c ∷ cs) = after-trans (moment w) (moment (step w c)) (moment (run (step w c) cs)) (follows-step w c) (follows-run (step w c) cs)
+
+-- the same of the entries of either side
+pub entered-side : (side : Side) (v w : World) → Follows v w → Entered (view side (v .state) .own .gate) (acceptedOf side v) (acceptedOf side w)
+unfolding view
+entered-side A v w f = f .entered
+entered-side B v w f = f .enteredOther

@@ -1,20 +1,26 @@
--- Demands 2 and 3, of any calls with any arguments made of a fresh join with any rule.
+-- Demands 2 and 3 and what stays through a run, of any calls with any arguments made of a fresh join with any rule.
 use Prim.Native.Nat.{ℕ, _*_}
 use mathlib.Core.Bool.{true, cond, _||_}
-use mathlib.Core.List.{List, [], _++_, Perm, IsPrefix}
+use mathlib.Core.List.{List, [], _∷_, _++_, Perm, IsPrefix}
 use mathlib.Core.Path.{_≡_}
+use lib.Dec.{leb}
 use lib.ListN.{length}
 use Rattle.interval.specs.Interval.{holdsAt}
+use Rattle.lists.specs.Judge.{allOf}
 use Rattle.lists.specs.Keep.{keep}
+use Rattle.pairing.specs.declared.Entry.{Entry}
 use Rattle.pairing.specs.declared.Pair.{Pair}
 use Rattle.pairing.specs.declared.Rule.{Rule}
+use Rattle.pairing.specs.declared.Side.{Side}
+use Rattle.pairing.specs.declared.Side.the-variants.{A, B}
 use Rattle.pairing.specs.Plain.{numberedFrom, plain, couplesAt}
+use Rattle.journal.specs.declared.Answer.the-variants.{Accepted}
 use Rattle.journal.specs.Journal.{isClosed}
 use Rattle.area.specs.Area as area
 use Rattle.join.specs.declared.Took.the-variants.{Finished}
 use Rattle.join.specs.State.{freshState}
-use Rattle.join.specs.Calls.{waitingIn, readyIn, readyOf, bothClosed, takeCall}
-use Rattle.demands.specs.History.{Call, isTake, World, begin, run, refused, heeded}
+use Rattle.join.specs.Calls.{waitingIn, readyIn, readyOf, bothClosed, sideOf, markCall, takeCall}
+use Rattle.demands.specs.History.{Call, Mark, isTake, World, begin, run, refused, heeded}
 use Rattle.demands.specs.Stream.{EachOnce, Element, sameElement, Couple, couple, sameCouple, joined, streamOf, streamOfPairs, matches}
 
 -- pairs formed: those handed out, then those waiting
@@ -90,7 +96,28 @@ Agree v w = v .ofA ≡ w .ofA → v .ofB ≡ w .ofB → waitingIn (v .state) ≡
 abbrev pub ran : Rule → List Call → World
 ran rule calls = run (begin rule) calls
 
+-- The rule is chosen when the join is made and never changes.
+abbrev pub RuleStays : Rule → World → Type 0
+RuleStays rule w = w .state .join .rule ≡ rule
+
+-- the entries accepted of a journal
+abbrev pub acceptedOf : Side → World → List Entry
+acceptedOf A w = w .ofA
+acceptedOf B w = w .ofB
+
+-- all that a journal has accepted since starts at the time or after it
+abbrev pub StartsFrom : ℕ → Side → World → World → Type 0
+StartsFrom time side w later =
+    (since : List Entry) × ((acceptedOf side w ++ since ≡ acceptedOf side later) × (allOf (λ (e : Entry). leb time (e .span .start)) since ≡ true))
+
+-- A mark promises that no later entry of that journal starts before it: one that is accepted after some calls, whatever more calls come after it.
+abbrev pub MarkPromises : Rule → List Call → List Call → Type 0
+MarkPromises rule calls more =
+    (stream time : ℕ) → markCall (ran rule calls .state) stream time .answer ≡ Accepted → StartsFrom time (sideOf stream) (ran rule calls) (ran rule (calls ++ (Mark stream time ∷ more)))
+
 pub record Demands (rule : Rule) (calls more : List Call) : Type 0 where
+  pub ruleStays : RuleStays rule (ran rule calls)
+  pub markPromises : MarkPromises rule calls more
   -- a refusal changes nothing
   pub unrefused : ran rule (heeded (freshState rule) calls) ≡ ran rule calls
   pub eachInstant : EachInstant rule (ran rule calls)

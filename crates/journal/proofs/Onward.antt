@@ -71,9 +71,3 @@ wanted-onward Closed Closed h e k = k
 pub wanted-after : (gate : Gate) (time : ℕ) (e : Entry) → Onward gate (Open time) → time < e .span .end → wanted gate e ≡ true
 wanted-after (Open clock) time e h k = lt-ltb clock (e .span .end) (omega arith)
 wanted-after Closed time e h k = absurd h
-
--- a closed gate stays closed
-pub closed-onward : (gate next : Gate) → Onward gate next → isClosed gate ≡ true → isClosed next ≡ true
-closed-onward (Open clock) next h e = absurd (false≢true e)
-closed-onward Closed (Open later) h e = absurd h
-closed-onward Closed Closed h e = refl
