@@ -4,9 +4,12 @@
 use crate::folder::Folder;
 use crate::kit::{Kit, Program};
 use crate::root;
+use second::joinfeed::joinfeed;
+use second::make::feeds;
+use second::text::feed_of_text;
 use std::fs::File;
 use std::io::Write;
-use std::process::{Command, Stdio};
+use std::process::Stdio;
 
 struct Bench {
     folder: Folder,
@@ -23,62 +26,33 @@ impl Bench {
         }
     }
 
-    fn output(&self, mut command: Command, input: &[u8]) -> Vec<u8> {
-        let input = self.folder.write("input", input).unwrap();
-        let command = command.stdin(File::open(input).unwrap());
+    fn baseline(&self, feed: &[u8]) -> Vec<u8> {
+        let feed = self.folder.write("feed", feed).unwrap();
+        let mut command = self.baseline.command();
+        let command = command.stdin(File::open(feed).unwrap());
         let done = command.stdout(Stdio::piped()).output().unwrap();
         assert!(done.status.success(), "{command:?} ended with {done:?}");
         done.stdout
     }
-
-    fn baseline(&self, feed: &[u8]) -> Vec<u8> {
-        self.output(self.baseline.command(), feed)
-    }
-
-    fn second(&self, words: &[&str], input: &[u8]) -> Vec<u8> {
-        let mut cargo = Command::new(env!("CARGO"));
-        cargo.args("run --quiet --release --offline --manifest-path".split(' '));
-        cargo.arg(root().join("second/Cargo.toml")).arg("--");
-        cargo.args(words);
-        self.output(cargo, input)
-    }
 }
 
-/// The feeds of a bundle: each has its length before it, in four bytes.
-fn feeds_of(mut bundle: &[u8]) -> Vec<&[u8]> {
-    let mut feeds = Vec::new();
-    while let Some((length, rest)) = bundle.split_first_chunk::<4>() {
-        let (feed, rest) = rest.split_at(u32::from_le_bytes(*length) as usize);
-        feeds.push(feed);
-        bundle = rest;
-    }
-    feeds
-}
-
+/// The feeds that joinfeed is compared on. The baseline joins by equal keys, as
+/// joinfeed does, whatever the rule that a feed was made for.
 #[test]
 fn three_thousand_feeds() {
     let bench = Bench::new();
-    let bundle = bench.second(&["make", "1", "3000"], &[]);
-    let printed = bench.second(&["joinall"], &bundle);
-    let feeds = feeds_of(&bundle);
-    assert_eq!(feeds.len(), 3000);
-    let mut rest = printed.as_slice();
-    for (number, feed) in feeds.into_iter().enumerate() {
-        let by_baseline = bench.baseline(feed);
-        let told = || String::from_utf8_lossy(&by_baseline);
-        rest = rest
-            .strip_prefix(by_baseline.as_slice())
-            .unwrap_or_else(|| panic!("feed {number} of make 1 3000: {}", told()));
+    for (number, made) in feeds(1, 3000).enumerate() {
+        let printed = String::from_utf8(bench.baseline(&made.feed)).unwrap();
+        assert_eq!(printed, joinfeed(&made.feed), "feed {number} of seed 1");
     }
-    assert!(rest.is_empty());
 }
 
 /// With B closed no entry of A is wanted, so none is held.
 #[test]
 fn a_million_entries_and_one_more() {
     let bench = Bench::new();
-    let mut feed = bench.second(&["feed"], b"close B");
-    let entry = bench.second(&["feed"], b"entry A 0 1 1 1");
+    let mut feed = feed_of_text(b"close B").unwrap();
+    let entry = feed_of_text(b"entry A 0 1 1 1").unwrap();
     feed.extend(entry.repeat(1_000_000));
     assert_eq!(bench.baseline(&feed), b"open 1000001 0\n");
     feed.extend(entry);

@@ -203,8 +203,8 @@ impl Chance {
 #[cfg(test)]
 mod tests {
     use super::*;
-    use crate::records::{reading, Reading, Record};
-    use crate::rules::{Join, Stream, Take};
+    use second::records::{reading, Reading, Record};
+    use second::rules::{Join, Rule, Stream, Take};
 
     /// What a feed makes of a fresh join.
     #[derive(Default)]
@@ -230,7 +230,7 @@ mod tests {
     fn course(name: &str, records: u32) -> Course {
         let kind = KINDS.iter().find(|kind| kind.name == name).unwrap();
         let feed = kind.feed(records);
-        let mut join = Join::fresh();
+        let mut join = Join::fresh(Rule::Equal);
         let mut course = Course::default();
         let mut place = 0;
         while let Reading::Record(record, next) = reading(&feed, place) {

@@ -10,19 +10,7 @@ mod feeds;
 mod folder;
 mod kit;
 mod plot;
-#[cfg(test)]
-#[allow(dead_code)]
-#[path = "../../second/src/records.rs"]
-mod records;
-#[cfg(test)]
-#[allow(dead_code)]
-#[path = "../../second/src/refusal.rs"]
-mod refusal;
 mod room;
-#[cfg(test)]
-#[allow(dead_code)]
-#[path = "../../second/src/rules.rs"]
-mod rules;
 mod table;
 mod time;
 

@@ -1,9 +1,8 @@
-//! The twelve bench examples of document 01, on the join. The eleventh is of the
-//! near rule, and joinfeed joins by equal keys only.
+//! The twelve bench examples of document 01, on the join.
 
 use crate::refusal::Refusal;
 use crate::rules::Stream::{A, B};
-use crate::rules::{Entry, Join, Pair, Stream, Take};
+use crate::rules::{Entry, Join, Pair, Rule, Stream, Take};
 
 /// Key 1 unless said.
 fn entry(start: u32, end: u32) -> Entry {
@@ -15,9 +14,14 @@ fn entry(start: u32, end: u32) -> Entry {
     }
 }
 
+/// Fresh join, equal keys unless said.
+fn fresh() -> Join {
+    Join::fresh(Rule::Equal)
+}
+
 /// A join that accepted these entries.
 fn joined(entries: &[(Stream, u32, u32)]) -> Join {
-    let mut join = Join::fresh();
+    let mut join = fresh();
     for (stream, start, end) in entries {
         assert_eq!(join.entry(*stream, entry(*start, *end)), Ok(()));
     }
@@ -81,7 +85,7 @@ fn example_5_equal_entries_pair_each_on_its_own() {
 
 #[test]
 fn example_6_an_empty_entry() {
-    let mut join = Join::fresh();
+    let mut join = fresh();
     assert_eq!(refused(&mut join, |join| join.entry(A, entry(7, 7))), 3);
 }
 
@@ -92,7 +96,7 @@ fn example_7_the_last_instant() {
 
 #[test]
 fn example_8_below_the_clock_and_at_it() {
-    let mut join = Join::fresh();
+    let mut join = fresh();
     assert_eq!(join.mark(A, 10), Ok(()));
     assert_eq!(refused(&mut join, |join| join.entry(A, entry(9, 12))), 4);
     assert_eq!(join.entry(A, entry(10, 12)), Ok(()));
@@ -120,9 +124,38 @@ fn example_10_full_waiting() {
     assert_eq!(refused(&mut join, |join| join.entry(B, entry(0, 100))), 7);
 }
 
+/// Whether an A entry and a B entry that hold at the same time pair.
+fn keys_pair(rule: Rule, a_key: u32, b_key: u32) -> bool {
+    let keyed = |key| Entry { key, ..entry(0, 9) };
+    let mut join = Join::fresh(rule);
+    assert_eq!(join.entry(A, keyed(a_key)), Ok(()));
+    assert_eq!(join.entry(B, keyed(b_key)), Ok(()));
+    waiting(&join) == [(0, 9, 0, 0)]
+}
+
+#[test]
+fn example_11_near_keys() {
+    assert!(keys_pair(Rule::Near(2), 5, 7));
+    assert!(!keys_pair(Rule::Near(2), 5, 8));
+    // Whichever of the two is the larger.
+    assert!(keys_pair(Rule::Near(2), 7, 5));
+    assert!(!keys_pair(Rule::Near(2), 8, 5));
+}
+
+#[test]
+fn the_rules_at_the_ends_of_the_keys() {
+    assert!(keys_pair(Rule::Near(0), 5, 5));
+    assert!(!keys_pair(Rule::Near(0), 5, 6));
+    assert!(keys_pair(Rule::Near(2), u32::MAX - 2, u32::MAX));
+    assert!(!keys_pair(Rule::Near(2), u32::MAX, 1));
+    assert!(keys_pair(Rule::Near(u32::MAX), 0, u32::MAX));
+    assert!(!keys_pair(Rule::Near(u32::MAX - 1), 0, u32::MAX));
+    assert!(keys_pair(Rule::Every, 0, u32::MAX));
+}
+
 #[test]
 fn example_12_waiting_and_finished() {
-    let mut join = Join::fresh();
+    let mut join = fresh();
     assert_eq!(join.take(), Take::Waiting);
     assert_eq!(join.close(A), Ok(()));
     assert_eq!(join.take(), Take::Waiting);

@@ -1,9 +1,10 @@
-//! How many of the feeds that `make` writes are of which kind and get which last
-//! line, and how many reach the limits.
+//! How many of the feeds that `make` writes get which last line, by their rules,
+//! and how many reach the limits.
 
-use crate::joinfeed::{joinfeed_watched, READ_LIMIT};
-use crate::make::{feeds, KINDS};
-use crate::rules::{Stream, HELD_LIMIT, WAITING_LIMIT};
+use crate::joinfeed::{printed_watched, READ_LIMIT};
+use crate::make::{feeds, Made};
+use crate::rules::{Rule, Stream, HELD_LIMIT, WAITING_LIMIT};
+use std::collections::BTreeMap;
 
 /// The last lines that a made feed can get, without their counts.
 pub const LAST_LINES: [&str; 11] = [
@@ -20,7 +21,7 @@ pub const LAST_LINES: [&str; 11] = [
     "refused 11",
 ];
 
-/// The counts of one kind of feed.
+/// The counts of some feeds.
 #[derive(Clone, Default)]
 pub struct Counts {
     pub feeds: usize,
@@ -33,20 +34,20 @@ pub struct Counts {
 }
 
 impl Counts {
-    fn add(&mut self, feed: &[u8]) {
+    fn add(&mut self, Made { rule, feed, .. }: &Made) {
         let (mut area_full, mut waiting_full) = (false, false);
-        let printed = joinfeed_watched(feed, READ_LIMIT, |join| {
+        let printed = printed_watched(*rule, feed, READ_LIMIT, |join| {
             let full = |stream| join.area(stream).len() == HELD_LIMIT;
             area_full |= full(Stream::A) || full(Stream::B);
             waiting_full |= join.waiting().len() == WAITING_LIMIT;
         });
         let last_line = without_counts(printed.lines().last().unwrap_or_default());
-        let column = LAST_LINES
+        let row = LAST_LINES
             .iter()
             .position(|line| *line == last_line)
             .expect("a made feed gets a known last line");
         self.feeds += 1;
-        self.by_last_line[column] += 1;
+        self.by_last_line[row] += 1;
         self.pairs += printed.lines().count() - 1;
         self.area_full += usize::from(area_full);
         self.waiting_full += usize::from(waiting_full);
@@ -60,21 +61,6 @@ impl Counts {
         self.pairs += other.pairs;
         self.area_full += other.area_full;
         self.waiting_full += other.waiting_full;
-    }
-
-    /// A line of the table.
-    fn line(&self, name: &str) -> String {
-        let last_lines: Vec<String> = LAST_LINES
-            .iter()
-            .zip(self.by_last_line)
-            .filter(|(_, count)| *count > 0)
-            .map(|(line, count)| format!("{count} {line}"))
-            .collect();
-        table_line(
-            name,
-            &[self.feeds, self.pairs, self.area_full, self.waiting_full],
-            &last_lines.join(", "),
-        )
     }
 }
 
@@ -91,44 +77,81 @@ fn without_counts(last_line: &str) -> &str {
         .unwrap_or_default()
 }
 
-fn table_line(name: &str, cells: &[impl std::fmt::Display; 4], last_lines: &str) -> String {
-    let [feeds, pairs, held, waiting] = cells;
-    format!("{name:25} {feeds:>5} {pairs:>6} {held:>7} {waiting:>11}  {last_lines}\n")
-}
-
-/// The counts of a bundle: a row for each kind, and their sum.
-pub fn counts(seed: u64, count: u64) -> (Vec<(&'static str, Counts)>, Counts) {
-    let mut rows: Vec<(&str, Counts)> = KINDS
-        .iter()
-        .map(|kind| (kind.name, Counts::default()))
-        .collect();
-    for (name, feed) in feeds(seed, count) {
-        let row = rows.iter_mut().find(|row| row.0 == name);
-        row.expect("every feed has a kind").1.add(&feed);
+fn name_of(rule: Rule) -> &'static str {
+    match rule {
+        Rule::Equal => "equal",
+        Rule::Near(_) => "near",
+        Rule::Every => "every",
     }
-    let mut all = Counts::default();
-    rows.iter().for_each(|row| all.include(&row.1));
-    (rows, all)
 }
 
-/// The counts as a table.
+/// The counts of a bundle, for each name that is given to its feeds.
+pub fn counts(
+    seed: u64,
+    count: u64,
+    name_of: impl Fn(&Made) -> &'static str,
+) -> BTreeMap<&'static str, Counts> {
+    let mut counts: BTreeMap<&str, Counts> = BTreeMap::new();
+    for made in feeds(seed, count) {
+        counts.entry(name_of(&made)).or_default().add(&made);
+    }
+    counts
+}
+
+pub fn sum<'a>(counts: impl IntoIterator<Item = &'a Counts>) -> Counts {
+    let mut sum = Counts::default();
+    counts.into_iter().for_each(|counts| sum.include(counts));
+    sum
+}
+
+/// The counts by last line and by rule, as a table.
 pub fn table(seed: u64, count: u64) -> String {
-    let (rows, all) = counts(seed, count);
-    let heads = ["feeds", "pairs", "64 held", "256 waiting"];
-    let mut table = table_line("kind of feed", &heads, "last line");
-    for (name, counts) in rows {
-        table.push_str(&counts.line(name));
+    let counts = counts(seed, count, |made| name_of(made.rule));
+    let of_rule = |name| counts.get(name).cloned().unwrap_or_default();
+    let rules = ["equal", "near", "every"].map(of_rule);
+    let [equal, near, every] = &rules;
+    let row = |name: &str, count: &dyn Fn(&Counts) -> usize| {
+        let cells = [equal, near, every, &sum(&rules)].map(count);
+        table_line(name, &cells)
+    };
+    let mut table = table_line("last line", &["equal", "near", "every", "all"]);
+    table += "|------------------|-------:|-------:|-------:|-------:|\n";
+    for (number, line) in LAST_LINES.iter().enumerate() {
+        table += &row(line, &|counts| counts.by_last_line[number]);
     }
-    table.push_str(&all.line("all"));
-    table.push_str("refused 5 needs 1000000 accepted entries and is left out\n");
+    table += &row("feeds", &|counts| counts.feeds);
+    table += &row("pairs printed", &|counts| counts.pairs);
+    table += &row("with 64 held", &|counts| counts.area_full);
+    table += &row("with 256 waiting", &|counts| counts.waiting_full);
+    table += "refused 5 needs 1000000 accepted entries and is left out\n";
+    table += &format!(
+        "{} feeds: {} joined by equal keys, {} by near keys, {} by every couple\n",
+        sum(&rules).feeds,
+        equal.feeds,
+        near.feeds,
+        every.feeds
+    );
     table
+}
+
+fn table_line(name: &str, cells: &[impl std::fmt::Display; 4]) -> String {
+    let [equal, near, every, all] = cells;
+    format!("| {name:16} | {equal:>6} | {near:>6} | {every:>6} | {all:>6} |\n")
 }
 
 #[cfg(test)]
 mod tests {
     use super::*;
     use crate::bundle::bundle_of;
+    use crate::make::KINDS;
     use crate::records::{reading, Reading, Record};
+    use crate::rules::Join;
+
+    /// How many of the counted feeds get a last line.
+    fn with_line(counts: &Counts, line: &str) -> usize {
+        let row = LAST_LINES.iter().position(|known| *known == line).unwrap();
+        counts.by_last_line[row]
+    }
 
     #[test]
     fn last_lines_without_their_counts() {
@@ -139,27 +162,59 @@ mod tests {
 
     #[test]
     fn three_thousand_feeds_reach_every_last_line_and_both_limits() {
-        let (rows, all) = counts(1, 3000);
+        let by_kind = counts(1, 3000, |made| made.kind);
+        let all = sum(by_kind.values());
         assert_eq!(all.feeds, 3000);
-        for (line, count) in LAST_LINES.iter().zip(all.by_last_line) {
+        for line in LAST_LINES {
+            let count = with_line(&all, line);
             assert!(count >= 40, "{line}: {count}");
         }
         assert!(all.area_full >= 100, "{}", all.area_full);
         assert!(all.waiting_full >= 50, "{}", all.waiting_full);
         assert!(all.pairs >= 10_000, "{}", all.pairs);
-        for (name, counts) in rows {
-            assert_eq!(counts.feeds, 100, "{name}");
+        for kind in &KINDS {
+            assert_eq!(by_kind[kind.name].feeds, 100, "{}", kind.name);
+        }
+    }
+
+    #[test]
+    fn each_rule_reaches_every_last_line_and_both_limits() {
+        let by_rule = counts(1, 3000, |made| name_of(made.rule));
+        for (rule, feeds) in [("equal", 1500), ("near", 1000), ("every", 500)] {
+            let counts = &by_rule[rule];
+            assert!(
+                counts.feeds.abs_diff(feeds) <= 50,
+                "{rule}: {}",
+                counts.feeds
+            );
+            for line in LAST_LINES {
+                let count = with_line(counts, line);
+                assert!(count >= 5, "{rule}, {line}: {count}");
+            }
+            // Most feeds are joined to their end.
+            let whole = with_line(counts, "done") + with_line(counts, "open");
+            assert!(whole * 5 >= counts.feeds * 2, "{rule}: {whole}");
+            assert!(counts.area_full >= 20, "{rule}: {}", counts.area_full);
+            assert!(counts.waiting_full >= 10, "{rule}: {}", counts.waiting_full);
+        }
+    }
+
+    #[test]
+    fn each_kind_meets_each_rule() {
+        let mut met: BTreeMap<(&str, &str), usize> = BTreeMap::new();
+        for Made { kind, rule, .. } in feeds(1, 3000) {
+            *met.entry((kind, name_of(rule))).or_default() += 1;
+        }
+        assert_eq!(met.len(), 3 * KINDS.len());
+        for (of, feeds) in met {
+            assert!(feeds >= 10, "{of:?}: {feeds}");
         }
     }
 
     #[test]
     fn each_refusal_has_a_kind_that_is_made_for_it() {
-        let (rows, _) = counts(2, 3000);
-        let count_of = |name, line| {
-            let column = LAST_LINES.iter().position(|known| *known == line).unwrap();
-            let row = rows.iter().find(|row| row.0 == name).unwrap();
-            row.1.by_last_line[column]
-        };
+        let by_kind = counts(2, 3000, |made| made.kind);
+        let count_of = |name, line| with_line(&by_kind[name], line);
         assert_eq!(count_of("wrong stream", "refused 1"), 100);
         assert_eq!(count_of("closed journal", "refused 2"), 100);
         assert_eq!(count_of("improper entry", "refused 3"), 100);
@@ -182,7 +237,55 @@ mod tests {
         }
         assert!(count_of("after both closes", "done") >= 30);
         assert!(count_of("after both closes", "refused 2") >= 30);
-        assert!(count_of("the document's example", "done") == 100);
+        assert!(count_of("the document's examples", "done") == 100);
+    }
+
+    /// By near keys: of the couples of accepted entries that hold at the same
+    /// time, how many have keys at the width, and how many just beyond it.
+    fn at_and_beyond(width: u32, feed: &[u8]) -> [usize; 2] {
+        let mut last = Join::fresh(Rule::Near(width));
+        printed_watched(Rule::Near(width), feed, READ_LIMIT, |join| {
+            last = join.clone()
+        });
+        let mut counts = [0, 0];
+        for a in last.accepted(Stream::A) {
+            for b in last.accepted(Stream::B) {
+                let beyond = u64::from(a.key.abs_diff(b.key)).checked_sub(width.into());
+                if let (true, Some(beyond @ 0..=1)) = (a.start < b.end && b.start < a.end, beyond) {
+                    counts[beyond as usize] += 1;
+                }
+            }
+        }
+        counts
+    }
+
+    #[test]
+    fn near_keys_stand_at_every_width_and_just_beyond_it() {
+        let mut by_width: BTreeMap<u32, [usize; 2]> = BTreeMap::new();
+        for made in feeds(1, 3000) {
+            if let Rule::Near(width) = made.rule {
+                let counts = by_width.entry(width).or_default();
+                for (sum, count) in counts.iter_mut().zip(at_and_beyond(width, &made.feed)) {
+                    *sum += count;
+                }
+            }
+        }
+        assert_eq!(by_width.len(), 12);
+        for (width, [at, beyond]) in by_width {
+            assert!(at >= 100, "{at} at {width}");
+            // No key is beyond the largest width.
+            assert_eq!(beyond >= 50, width < u32::MAX, "{beyond} beyond {width}");
+        }
+    }
+
+    #[test]
+    fn feeds_and_what_is_printed_of_them_are_short() {
+        for Made { kind, rule, feed } in feeds(1, 3000) {
+            let printed = printed_watched(rule, &feed, READ_LIMIT, |_| ());
+            for size in [feed.len(), printed.len()] {
+                assert!(size < 60_000, "{kind}, {rule:?}: {size}");
+            }
+        }
     }
 
     #[test]
@@ -190,7 +293,7 @@ mod tests {
         let mut lengths = [false; 65];
         let mut cuts = [false; 100];
         let mut small_cuts = std::collections::BTreeSet::new();
-        for (name, feed) in feeds(1, 3000) {
+        for Made { kind, feed, .. } in feeds(1, 3000) {
             let mut place = 0;
             while let Reading::Record(record, next) = reading(&feed, place) {
                 place = next;
@@ -198,7 +301,7 @@ mod tests {
                     lengths[text.len()] = true;
                 }
             }
-            match name {
+            match kind {
                 "the example cut" => cuts[feed.len()] = true,
                 "small feed cut" => {
                     small_cuts.insert(feed.len());
@@ -214,8 +317,8 @@ mod tests {
     #[test]
     fn a_bundle_is_small_and_made_anew_from_its_seed() {
         let made = |seed, count| -> Vec<u8> {
-            let feeds: Vec<Vec<u8>> = feeds(seed, count).map(|feed| feed.1).collect();
-            bundle_of(feeds.iter().map(Vec::as_slice))
+            let made: Vec<Made> = feeds(seed, count).collect();
+            bundle_of(made.iter().map(|made| (made.rule, made.feed.as_slice())))
         };
         let bundle = made(1, 3000);
         assert!(bundle.len() < 2_000_000, "{}", bundle.len());

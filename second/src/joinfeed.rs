@@ -1,24 +1,34 @@
-//! What joinfeed must print of a feed.
+//! What joinfeed must print of a feed, and what it would print by another rule.
 
 use crate::records::{reading, Reading, Record};
 use crate::refusal::Refusal;
-use crate::rules::{Join, Pair, Take};
+use crate::rules::{Join, Pair, Rule, Take};
 
 /// Bytes beyond the first 4,294,967,295 are not read, and the feed counts as
 /// ending there.
 pub const READ_LIMIT: u64 = 4_294_967_295;
 
-/// All that joinfeed prints of a feed.
+/// All that joinfeed prints of a feed: it joins by equal keys.
 pub fn joinfeed(feed: &[u8]) -> String {
-    joinfeed_watched(feed, READ_LIMIT, |_| ())
+    printed_by(Rule::Equal, feed)
+}
+
+/// The same by any rule.
+pub fn printed_by(rule: Rule, feed: &[u8]) -> String {
+    printed_watched(rule, feed, READ_LIMIT, |_| ())
 }
 
 /// The same with a read limit of one's own, showing the join to `watch` after
 /// each accepted record, before its ready pairs are taken.
-pub fn joinfeed_watched(feed: &[u8], read_limit: u64, mut watch: impl FnMut(&Join)) -> String {
+pub fn printed_watched(
+    rule: Rule,
+    feed: &[u8],
+    read_limit: u64,
+    mut watch: impl FnMut(&Join),
+) -> String {
     let read = (feed.len() as u64).min(read_limit) as usize;
     let feed = &feed[..read];
-    let mut join = Join::fresh();
+    let mut join = Join::fresh(rule);
     let mut printed = String::new();
     let mut records = 0u64;
     let mut pairs = 0u64;
@@ -77,7 +87,7 @@ pub fn line(pair: &Pair) -> String {
 #[cfg(test)]
 mod tests {
     use super::*;
-    use crate::make::{example_of_the_document, feeds};
+    use crate::make::{example_of_the_document, feeds, Made};
     use crate::rules::{pair_of, Numbered, Stream};
     use crate::text::feed_of_text;
 
@@ -143,7 +153,7 @@ mod tests {
     #[test]
     fn a_small_read_limit() {
         let feed = example_of_the_document();
-        let printed_within = |limit| joinfeed_watched(&feed, limit, |_| ());
+        let printed_within = |limit| printed_watched(Rule::Equal, &feed, limit, |_| ());
         assert_eq!(printed_within(0), "open 0 0\n");
         assert_eq!(printed_within(1), "refused 9 0\n");
         assert_eq!(printed_within(21), "refused 9 0\n");
@@ -153,6 +163,25 @@ mod tests {
         assert_eq!(printed_within(99), cut_in_the_last_close);
         assert_eq!(printed_within(100), PRINTED_OF_THE_EXAMPLE);
         assert_eq!(printed_within(101), PRINTED_OF_THE_EXAMPLE);
+    }
+
+    #[test]
+    fn one_feed_by_each_rule() {
+        let text = "entry A 0 9 5 1\nentry B 0 9 5 2\nentry B 0 9 7 3\nentry B 0 9 8 4\n\
+                    close A\nclose B";
+        let feed = feed_of_text(text.as_bytes()).unwrap();
+        let equal = "0 9 0 0 5 5 1 2\n";
+        let at_the_width = "0 9 0 1 5 7 1 3\n";
+        let beyond = "0 9 0 2 5 8 1 4\n";
+        assert_eq!(joinfeed(&feed), format!("{equal}done 6 1\n"));
+        assert_eq!(
+            printed_by(Rule::Near(2), &feed),
+            format!("{equal}{at_the_width}done 6 2\n")
+        );
+        assert_eq!(
+            printed_by(Rule::Every, &feed),
+            format!("{equal}{at_the_width}{beyond}done 6 3\n")
+        );
     }
 
     #[test]
@@ -172,16 +201,16 @@ mod tests {
     #[test]
     fn made_feeds_print_the_ready_stretch_of_the_plain_list() {
         let mut compared = 0;
-        for (name, feed) in feeds(11, 1500) {
-            let mut last = Join::fresh();
-            let printed = joinfeed_watched(&feed, READ_LIMIT, |join| last = join.clone());
+        for Made { kind, rule, feed } in feeds(11, 1500) {
+            let mut last = Join::fresh(rule);
+            let printed = printed_watched(rule, &feed, READ_LIMIT, |join| last = join.clone());
             let numbered = |stream| -> Vec<Numbered> {
                 (0..).zip(last.accepted(stream).iter().copied()).collect()
             };
             let (a, b) = (numbered(Stream::A), numbered(Stream::B));
             let mut plain_list: Vec<Pair> = a
                 .iter()
-                .flat_map(|a| b.iter().filter_map(|b| pair_of(*a, *b)))
+                .flat_map(|a| b.iter().filter_map(|b| pair_of(rule, *a, *b)))
                 .collect();
             plain_list.sort_by_key(Pair::order);
             let ready = plain_list.iter().filter(|pair| last.is_ready(pair)).count();
@@ -190,9 +219,9 @@ mod tests {
                 Some(end) => printed.split_at(end + 1),
                 None => ("", printed.as_str()),
             };
-            assert_eq!(lines, expected, "a feed of kind {name}");
+            assert_eq!(lines, expected, "a feed of kind {kind}, {rule:?}");
             if last_line.starts_with("done") {
-                assert_eq!(ready, plain_list.len(), "a feed of kind {name}");
+                assert_eq!(ready, plain_list.len(), "a feed of kind {kind}, {rule:?}");
                 assert!(last_line.ends_with(&format!(" {ready}\n")));
             }
             compared += ready;

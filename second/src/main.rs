@@ -1,33 +1,22 @@
-//! A second program for the journal join: a slow, literal reading of the rules
-//! (document 01), which shares nothing with the first and which joinfeed is
-//! compared with on many feeds. It also makes those feeds, and turns text lines
-//! into a feed and a feed into text lines.
+//! The second program: `second help` says what it can be asked for.
 
-#[cfg(test)]
-mod bench;
-mod bundle;
-mod chance;
-mod count;
-mod joinfeed;
-mod make;
-mod records;
-mod refusal;
-mod rules;
-mod text;
-
+use second::rules::Rule;
+use second::{bundle, count, joinfeed, make, text};
 use std::io::{self, Read, Write};
 use std::process::ExitCode;
 
 const USAGE: &str = "\
-second join              a feed -> what joinfeed must print of it
-second join LIMIT        the same, reading no more than LIMIT bytes
+second join [--rule RULE] [LIMIT]
+                         a feed -> what must be printed of it, joined by equal
+                         keys, as joinfeed joins, or by a RULE: equal, near:2
+                         (near keys, width 2) or every; read up to LIMIT bytes
 second feed              text lines -> a feed
 second text              a feed -> text lines
-second make SEED COUNT   a bundle of COUNT feeds made from SEED
+second make SEED COUNT   a bundle of COUNT feeds made from SEED, each with a rule
 second long SEED COUNT   one feed of COUNT records and both closes made from SEED
 second example           the feed that document 01 gives
-second joinall           a bundle -> what joinfeed must print of each of its feeds
-second count SEED COUNT  the feeds of `make SEED COUNT` by kind and by last line
+second joinall           a bundle -> what must be printed of each of its feeds
+second count SEED COUNT  the feeds of `make SEED COUNT` by last line and by rule
 
 Feeds, text and bundles come from standard input and go to standard output.
 A text line is one of: entry A 10 50 7 100 (journal, start, end, key, value),
@@ -64,32 +53,26 @@ fn main() -> ExitCode {
 /// What a command puts out.
 fn answer(words: &[&str]) -> Result<Vec<u8>, Fault> {
     match words {
-        ["join"] => Ok(joinfeed::joinfeed(&input(joinfeed::READ_LIMIT)?).into_bytes()),
-        ["join", limit] => {
-            let feed = input(joinfeed::READ_LIMIT)?;
-            Ok(joinfeed::joinfeed_watched(&feed, number(limit)?, |_| ()).into_bytes())
-        }
+        ["join", "--rule", rule, rest @ ..] if rest.len() < 2 => join(rule_of(rule)?, rest),
+        ["join", rest @ ..] if rest.len() < 2 => join(Rule::Equal, rest),
         ["example"] => Ok(make::example_of_the_document()),
         ["long", seed, count] => Ok(make::long_feed(number(seed)?, number(count)?)),
         ["feed"] => text::feed_of_text(&all_input()?).map_err(Fault::Input),
         ["text"] => Ok(text::text_of_feed(&all_input()?).into_bytes()),
         ["make", seed, count] => {
-            let feeds: Vec<Vec<u8>> = make::feeds(number(seed)?, number(count)?)
-                .map(|(_, feed)| feed)
-                .collect();
-            Ok(bundle::bundle_of(feeds.iter().map(Vec::as_slice)))
+            let made: Vec<make::Made> = make::feeds(number(seed)?, number(count)?).collect();
+            let feeds = made.iter().map(|made| (made.rule, made.feed.as_slice()));
+            Ok(bundle::bundle_of(feeds))
         }
         ["joinall"] => {
-            let bundle = all_input()?;
-            let feeds = bundle::feeds_of(&bundle).map_err(Fault::Input)?;
-            let printed: String = feeds.into_iter().map(joinfeed::joinfeed).collect();
-            Ok(printed.into_bytes())
+            let printed = bundle::printed_of_all(&all_input()?);
+            printed.map(String::into_bytes).map_err(Fault::Input)
         }
         ["count", seed, count] => Ok(count::table(number(seed)?, number(count)?).into_bytes()),
         ["help" | "--help" | "-h"] => Ok(USAGE.as_bytes().to_vec()),
         [] => Err(usage("no command is given; give one of these")),
         ["join", ..] => Err(usage(
-            "`join` takes a limit or nothing; give it a feed with <",
+            "`join` takes a rule, a limit, both or nothing; write join --rule near:2 and give it a feed with <",
         )),
         [command @ ("feed" | "text" | "joinall" | "example"), ..] => Err(usage(&format!(
             "`{command}` takes no arguments; give it its input with <"
@@ -99,6 +82,29 @@ fn answer(words: &[&str]) -> Result<Vec<u8>, Fault> {
         ))),
         [command, ..] => Err(usage(&format!(
             "`{command}` is no command; give one of these"
+        ))),
+    }
+}
+
+/// What is printed of the feed on standard input, read up to a limit if one is
+/// given.
+fn join(rule: Rule, limit: &[&str]) -> Result<Vec<u8>, Fault> {
+    let limit = match limit {
+        [limit, ..] => number(limit)?,
+        [] => joinfeed::READ_LIMIT,
+    };
+    let feed = input(joinfeed::READ_LIMIT)?;
+    Ok(joinfeed::printed_watched(rule, &feed, limit, |_| ()).into_bytes())
+}
+
+fn rule_of(word: &str) -> Result<Rule, Fault> {
+    let width = word.strip_prefix("near:").map(str::parse);
+    match (word, width) {
+        ("equal", _) => Ok(Rule::Equal),
+        ("every", _) => Ok(Rule::Every),
+        (_, Some(Ok(width))) => Ok(Rule::Near(width)),
+        _ => Err(usage(&format!(
+            "`{word}` is no rule; write equal, every, or near: and a width from 0 to 4294967295, as near:2"
         ))),
     }
 }

@@ -4,30 +4,41 @@
 //! that number alone, so a longer bundle begins with the shorter one. A kind's
 //! first feed is of round 0, its next of round 1, and so on: what has to be gone
 //! through one by one (cuts, lengths of notes, variants) goes by the round, the
-//! rest by chance.
+//! rest by chance. The rules take turns too, and each kind meets each of them.
 //!
 //! Refusal 5 needs 1,000,000 accepted entries and is left out here.
 
 mod bursts;
 mod damaged;
 mod draft;
+mod keyed;
 mod ordinary;
 mod refused;
 
 use crate::chance::Chance;
+use crate::rules::Rule;
 
-/// A kind of feed: its name, and the feed of a round.
+/// A kind of feed: its name, and the feed of a round, for equal keys.
 pub struct Kind {
     pub name: &'static str,
     make: fn(&mut Chance, u32) -> Vec<u8>,
+    /// Whether it fills the waiting pairs exactly, so that under near keys the
+    /// same entries must pair.
+    exact: bool,
 }
 
 const fn kind(name: &'static str, make: fn(&mut Chance, u32) -> Vec<u8>) -> Kind {
-    Kind { name, make }
+    let exact = false;
+    Kind { name, make, exact }
+}
+
+const fn exact(name: &'static str, make: fn(&mut Chance, u32) -> Vec<u8>) -> Kind {
+    let exact = true;
+    Kind { name, make, exact }
 }
 
 pub const KINDS: [Kind; 30] = [
-    kind("the document's example", ordinary::example),
+    kind("the document's examples", ordinary::example),
     kind("short", ordinary::short),
     kind("sparse overlaps", ordinary::sparse),
     kind("dense overlaps", ordinary::dense),
@@ -41,14 +52,14 @@ pub const KINDS: [Kind; 30] = [
     kind("marks run ahead", ordinary::marks_ahead),
     kind("early close", ordinary::early_close),
     kind("after both closes", refused::after_both_closes),
-    kind("full area", bursts::full_area),
-    kind("area freed and filled", bursts::area_freed),
-    kind("full waiting", bursts::full_waiting),
-    kind("waiting freed and filled", bursts::waiting_freed),
+    exact("full area", bursts::full_area),
+    exact("area freed and filled", bursts::area_freed),
+    exact("full waiting", bursts::full_waiting),
+    exact("waiting freed and filled", bursts::waiting_freed),
     kind("closed journal", refused::closed),
     kind("improper entry", refused::improper),
     kind("below the clock", refused::below_clock),
-    kind("several refusals at once", refused::several),
+    exact("several refusals at once", refused::several),
     kind("wrong stream", damaged::stream),
     kind("wrong length", damaged::length),
     kind("wrong kind", damaged::kind),
@@ -59,14 +70,34 @@ pub const KINDS: [Kind; 30] = [
     kind("any bytes", damaged::any_bytes),
 ];
 
-/// The feeds of a seed, each with the name of its kind.
-pub fn feeds(seed: u64, count: u64) -> impl Iterator<Item = (&'static str, Vec<u8>)> {
-    (0..count).map(move |number| {
-        let kind = &KINDS[(number % KINDS.len() as u64) as usize];
-        let round = (number / KINDS.len() as u64) as u32;
-        let mut chance = Chance::of_feed(seed, number);
-        (kind.name, (kind.make)(&mut chance, round))
-    })
+/// A feed, with the name of its kind and the rule that it is joined by.
+pub struct Made {
+    pub kind: &'static str,
+    pub rule: Rule,
+    pub feed: Vec<u8>,
+}
+
+/// The feeds of a seed.
+pub fn feeds(seed: u64, count: u64) -> impl Iterator<Item = Made> {
+    (0..count).map(move |number| made(seed, number))
+}
+
+fn made(seed: u64, number: u64) -> Made {
+    let turn = (number % KINDS.len() as u64) as usize;
+    let round = (number / KINDS.len() as u64) as u32;
+    let kind = &KINDS[turn];
+    let mut chance = Chance::of_feed(seed, number);
+    let (rule, feed) = match (turn, round) {
+        (0, 0) => (Rule::Equal, example_of_the_document()),
+        (0, 1) => (Rule::Near(2), ordinary::example_11()),
+        _ => {
+            let feed = (kind.make)(&mut chance, round);
+            let rule = keyed::rule_of(&mut chance, turn as u32, round);
+            (rule, keyed::keyed(feed, rule, kind.exact, &mut chance))
+        }
+    };
+    let kind = kind.name;
+    Made { kind, rule, feed }
 }
 
 /// One feed of a seed, with so many records and both closes.
@@ -76,13 +107,13 @@ pub fn long_feed(seed: u64, count: u64) -> Vec<u8> {
 
 /// The input that document 01 gives for joinfeed.
 pub fn example_of_the_document() -> Vec<u8> {
-    ordinary::example(&mut Chance::new(0), 0)
+    ordinary::example_of_the_document()
 }
 
 #[cfg(test)]
 mod tests {
     use super::*;
-    use crate::joinfeed::joinfeed;
+    use crate::joinfeed::{joinfeed, printed_by};
 
     #[test]
     fn a_long_feed_is_accepted_whole_and_depends_on_its_seed() {
@@ -91,5 +122,14 @@ mod tests {
         assert!(last.starts_with("done 5002 "), "{last}");
         assert_eq!(long_feed(1, 5_000), long_feed(1, 5_000));
         assert_ne!(long_feed(1, 5_000), long_feed(2, 5_000));
+    }
+
+    #[test]
+    fn the_documents_eleventh_example_is_among_the_feeds() {
+        let is_example = |made: &Made| made.feed == ordinary::example_11();
+        let example = feeds(1, 3000).find(is_example).unwrap();
+        assert_eq!(example.rule, Rule::Near(2));
+        let printed = "0 9 0 0 5 7 0 1\ndone 5 1\n";
+        assert_eq!(printed_by(example.rule, &example.feed), printed);
     }
 }

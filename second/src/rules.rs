@@ -1,4 +1,4 @@
-//! The join, sentence by sentence as document 01 states it, by equal keys.
+//! The join, sentence by sentence as document 01 states it.
 //!
 //! Every accepted entry is kept for good. What an area holds is found afresh
 //! each time it is asked for, and the waiting pairs are sorted after each entry.
@@ -44,6 +44,26 @@ impl Entry {
     }
 }
 
+/// The pairing rule is one of three: equal keys; near keys with a width; every
+/// couple.
+#[derive(Clone, Copy, Debug, PartialEq, Eq)]
+pub enum Rule {
+    Equal,
+    Near(u32),
+    Every,
+}
+
+impl Rule {
+    /// Near means that the larger key less the smaller is at most the width.
+    pub fn holds(self, a_key: u32, b_key: u32) -> bool {
+        match self {
+            Rule::Equal => a_key == b_key,
+            Rule::Near(width) => a_key.max(b_key) - a_key.min(b_key) <= width,
+            Rule::Every => true,
+        }
+    }
+}
+
 /// The pair carries the meeting, both ordinals, both keys, both values.
 #[derive(Clone, Copy, Debug, PartialEq, Eq)]
 pub struct Pair {
@@ -70,14 +90,13 @@ pub type Numbered = (u32, Entry);
 
 /// An A entry and a B entry pair when both are proper, their meeting is not
 /// empty and the rule holds for their keys.
-pub fn pair_of((a_ordinal, a): Numbered, (b_ordinal, b): Numbered) -> Option<Pair> {
+pub fn pair_of(rule: Rule, (a_ordinal, a): Numbered, (b_ordinal, b): Numbered) -> Option<Pair> {
     // The meeting starts at the larger start and ends at the smaller end.
     let start = a.start.max(b.start);
     let end = a.end.min(b.end);
     // It is empty when that start is not below that end.
     let meeting_is_empty = start >= end;
-    let keys_are_equal = a.key == b.key;
-    if a.is_proper() && b.is_proper() && !meeting_is_empty && keys_are_equal {
+    if a.is_proper() && b.is_proper() && !meeting_is_empty && rule.holds(a.key, b.key) {
         Some(Pair {
             start,
             end,
@@ -116,18 +135,21 @@ pub enum Take {
 
 #[derive(Clone, Debug, PartialEq, Eq)]
 pub struct Join {
+    rule: Rule,
     journals: [Journal; 2],
     waiting: Vec<Pair>,
 }
 
 impl Join {
-    /// A fresh clock is 0.
-    pub fn fresh() -> Join {
+    /// The rule is chosen when the join is made and never changes. A fresh clock
+    /// is 0.
+    pub fn fresh(rule: Rule) -> Join {
         let journal = Journal {
             state: State::Open { clock: 0 },
             accepted: Vec::new(),
         };
         Join {
+            rule,
             journals: [journal.clone(), journal],
             waiting: Vec::new(),
         }
@@ -146,7 +168,6 @@ impl Join {
     }
 
     /// The entries of a journal accepted so far, in ordinal order.
-    #[cfg(test)]
     pub fn accepted(&self, stream: Stream) -> &[Entry] {
         &self.journal(stream).accepted
     }
@@ -188,8 +209,8 @@ impl Join {
         self.area(stream.other())
             .into_iter()
             .filter_map(|held| match stream {
-                Stream::A => pair_of(arriving, held),
-                Stream::B => pair_of(held, arriving),
+                Stream::A => pair_of(self.rule, arriving, held),
+                Stream::B => pair_of(self.rule, held, arriving),
             })
             .collect()
     }

@@ -187,7 +187,7 @@ mod tests {
     use super::*;
     use crate::chance::Chance;
     use crate::joinfeed::joinfeed;
-    use crate::make::{example_of_the_document, feeds};
+    use crate::make::{example_of_the_document, feeds, Made};
 
     fn told(text: &str) -> String {
         feed_of_text(text.as_bytes()).unwrap_err()
@@ -272,9 +272,9 @@ mod tests {
 
     #[test]
     fn made_feeds_turn_into_text_and_back() {
-        for (name, feed) in feeds(5, 3000) {
+        for Made { kind, feed, .. } in feeds(5, 3000) {
             let text = text_of_feed(&feed);
-            assert_eq!(feed_of_text(text.as_bytes()).unwrap(), feed, "{name}");
+            assert_eq!(feed_of_text(text.as_bytes()).unwrap(), feed, "{kind}");
         }
     }
 

@@ -22,18 +22,32 @@ fn spread_keys(count: u32) -> Vec<u32> {
         .collect()
 }
 
-/// The document's example; after round 0 with its journals interleaved anew.
-pub fn example(chance: &mut Chance, round: u32) -> Vec<u8> {
+/// The input that document 01 gives for joinfeed.
+pub fn example_of_the_document() -> Vec<u8> {
     let mut draft = Draft::new();
-    if round == 0 {
-        draft.entry(A, (10, 50), 7, 100);
-        draft.entry(B, (20, 30), 7, 5);
-        draft.entry(B, (30, 60), 7, 6);
-        draft.entry(A, (50, 70), 7, 101);
-        draft.close(A);
-        draft.close(B);
-        return draft.bytes;
-    }
+    draft.entry(A, (10, 50), 7, 100);
+    draft.entry(B, (20, 30), 7, 5);
+    draft.entry(B, (30, 60), 7, 6);
+    draft.entry(A, (50, 70), 7, 101);
+    draft.close(A);
+    draft.close(B);
+    draft.bytes
+}
+
+/// Its eleventh bench example: near, width 2.
+pub fn example_11() -> Vec<u8> {
+    let mut draft = Draft::new();
+    draft.entry(A, (0, 9), 5, 0);
+    draft.entry(B, (0, 9), 7, 1);
+    draft.entry(B, (0, 9), 8, 2);
+    draft.close(A);
+    draft.close(B);
+    draft.bytes
+}
+
+/// The document's input for joinfeed with its journals interleaved anew.
+pub fn example(chance: &mut Chance, _round: u32) -> Vec<u8> {
+    let mut draft = Draft::new();
     let entries = [
         [((10, 50), 100), ((50, 70), 101)],
         [((20, 30), 5), ((30, 60), 6)],
