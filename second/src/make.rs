@@ -88,6 +88,7 @@ fn made(seed: u64, number: u64) -> Made {
     let kind = &KINDS[turn];
     let mut chance = Chance::of_feed(seed, number);
     let (rule, feed) = match (turn, round) {
+        // The document's own, as they stand there.
         (0, 0) => (Rule::Equal, example_of_the_document()),
         (0, 1) => (Rule::Near(2), ordinary::example_11()),
         _ => {
