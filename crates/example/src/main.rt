@@ -55,7 +55,7 @@ fn main() {
     // Axis 1 is set by sheet 101 up to 4000 ms, and held from 3000 up to 5000 ms.
     let set = heard(fresh.entry(&mut a, &mut b, &mut rows, 0, entry(0, 4000, 1, 101)));
     let held = heard(set.entry(&mut a, &mut b, &mut rows, 1, entry(3000, 5000, 1, 2)));
-    // Their pair starts at 3000 and is ready, as A's next entry starts at 4000 or later and B has none.
+    // Their pair starts at 3000 and is ready, as A's next entry starts at 4000 or later and B brings none.
     let marked = heard(held.mark(&mut a, &mut b, &rows, 0, 4000));
     let closed = heard(marked.close(&mut a, &mut b, &rows, 1));
     let taken = closed.take(&a, &b, &mut rows);
