@@ -71,13 +71,20 @@ fn tell_place(records: u32, byte: usize, last: &[u8]) {
     io::write_all(STDERR_FILENO, last);
 }
 
+// What was put out, written. A write that fails is told on standard error.
+fn write_out(text: &[u8]) {
+    if !io::write_all(STDOUT_FILENO, text) {
+        io::write_all(STDERR_FILENO, b"a write failed\n");
+    }
+}
+
 // A buffer that has no room for another step is written. Answers how much of it is filled then.
 fn make_room(out: &[u8], filled: usize) -> usize
     requires { ⌜ (filled ≤ length (now out)) × (room ≤ length (now out)) ⌝ }
     ensures { λ r. ⌜ r + room ≤ length (now (out .entry)) ⌝ }
 {
     if out.len() - filled < ROOM {
-        io::write_all(STDOUT_FILENO, &out[..filled]);
+        write_out(&out[..filled]);
         return 0;
     }
     filled
@@ -151,13 +158,13 @@ pub fn join_input(limit: u32) {
         match went {
             Went::More => {
                 // It waits for input with nothing left to write.
-                io::write_all(STDOUT_FILENO, &out[..filled]);
+                write_out(&out[..filled]);
                 filled = 0;
                 unused = refill(&mut window, unused.at, unused.end, left);
             }
             Went::On => {}
             Went::Ended => {
-                io::write_all(STDOUT_FILENO, &out[..filled]);
+                write_out(&out[..filled]);
                 tell_place(counts.records, limit as usize - left, &out[from..filled]);
                 return;
             }

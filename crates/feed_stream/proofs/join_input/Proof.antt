@@ -91,15 +91,15 @@ array-share-prefix-out c =
     let same = c .before .before .before .before .before .before .before .before .out3 .given in
     omega arith
 
-slice-aggregate-write-all : tie.Need-slice-aggregate-write-all Inv-loop μ-loop
-slice-aggregate-write-all c =
+slice-aggregate-write-out : tie.Need-slice-aggregate-write-out Inv-loop μ-loop
+slice-aggregate-write-out c =
     let far = c .before .before .before .before .before .before .before .before .before .before .step-on .ensures .1 .0 .2 in
     let long = c .before .before .before .before .before .before .before .before .before .before .before .before .before .before .before .before .before .before .loop .inv .5 in
     let same = c .before .before .before .before .before .before .before .before .before .out3 .given in
     sym (length-take-le _ _ (omega arith))
 
-write-all-requires : tie.Need-write-all-requires Inv-loop μ-loop
-write-all-requires c κs = search needs
+write-out-requires : tie.Need-write-out-requires Inv-loop μ-loop
+write-out-requires c κs = search needs
 
 slice-aggregate-refill : tie.Need-slice-aggregate-refill Inv-loop μ-loop
 slice-aggregate-refill c = sym (c .before .before .before .before .before .before .before .before .before .before .before .before .before .before .before .before .before .before .before .before .loop .inv .4)
@@ -162,15 +162,15 @@ array-share-prefix-out-2 c =
     let same = c .before .before .before .before .before .before .before .before .out3 .given in
     omega arith
 
-slice-aggregate-write-all-2 : tie.Need-slice-aggregate-write-all-2 Inv-loop μ-loop
-slice-aggregate-write-all-2 c =
+slice-aggregate-write-out-2 : tie.Need-slice-aggregate-write-out-2 Inv-loop μ-loop
+slice-aggregate-write-out-2 c =
     let far = c .before .before .before .before .before .before .before .before .before .before .step-on .ensures .1 .0 .2 in
     let long = c .before .before .before .before .before .before .before .before .before .before .before .before .before .before .before .before .before .before .loop .inv .5 in
     let same = c .before .before .before .before .before .before .before .before .before .out3 .given in
     sym (length-take-le _ _ (omega arith))
 
-write-all-requires-2 : tie.Need-write-all-requires-2 Inv-loop μ-loop
-write-all-requires-2 c κs = search needs
+write-out-requires-2 : tie.Need-write-out-requires-2 Inv-loop μ-loop
+write-out-requires-2 c κs = search needs
 
 sub-tell-place : tie.Need-sub-tell-place Inv-loop μ-loop
 sub-tell-place c =
@@ -219,8 +219,8 @@ join-input-spec =
     add-unused
     enum-told
     array-share-prefix-out
-    slice-aggregate-write-all
-    write-all-requires
+    slice-aggregate-write-out
+    write-out-requires
     slice-aggregate-refill
     refill-requires
     loop-less
@@ -230,8 +230,8 @@ join-input-spec =
     loop-again-2
     enum-told-3
     array-share-prefix-out-2
-    slice-aggregate-write-all-2
-    write-all-requires-2
+    slice-aggregate-write-out-2
+    write-out-requires-2
     sub-tell-place
     sub-tell-place-2
     part-tell-place-start

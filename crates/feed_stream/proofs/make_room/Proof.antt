@@ -9,13 +9,13 @@ use Rattle.feed_stream.proofs.make_room.Tie as tie
 sub-if1 : tie.Need-sub-if1
 sub-if1 c = search needs
 
-slice-aggregate-write-all : tie.Need-slice-aggregate-write-all
-slice-aggregate-write-all c =
+slice-aggregate-write-out : tie.Need-slice-aggregate-write-out
+slice-aggregate-write-out c =
     let st = c .before .before .before in
     sym (length-take-le (st .args .filled) (now (st .args .out)) (st .pre .0))
 
-write-all-requires : tie.Need-write-all-requires
-write-all-requires c κs = search needs
+write-out-requires : tie.Need-write-out-requires
+write-out-requires c κs = search needs
 
 returns : tie.Need-returns
 returns c = search needs
@@ -25,4 +25,4 @@ returns-2 c = search needs
 
 pub make-room-spec : {M : Type 1} → statement M
 make-room-spec =
-    tie.close (tie.spec sub-if1 slice-aggregate-write-all write-all-requires returns returns-2)
+    tie.close (tie.spec sub-if1 slice-aggregate-write-out write-out-requires returns returns-2)
