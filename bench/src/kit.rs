@@ -123,7 +123,9 @@ impl Program {
 
 pub fn quiet(words: &[PathBuf]) -> Command {
     let mut command = Command::new(&words[0]);
-    command.args(&words[1..]).env_clear().stdout(Stdio::null());
+    command.args(&words[1..]).env_clear();
+    // joinfeed tells on standard error where a feed stopped that is not done, as the empty one.
+    command.stdout(Stdio::null()).stderr(Stdio::null());
     command
 }
 
