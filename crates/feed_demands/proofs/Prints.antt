@@ -23,7 +23,7 @@ use Rattle.queue.specs.Queue.{ready}
 use Rattle.join.specs.State.{State, Sound, freshState, stateOf}
 use Rattle.join.specs.Calls.{readyOf, readyIn, waitingIn, bothClosed}
 use Rattle.join.proofs.Kept.{sound-fresh}
-use Rattle.demands.specs.Demands.{plainOf, ran}
+use Rattle.demands.specs.Demands.{acceptedOf, plainOf, ran}
 use Rattle.demands.specs.History.{Call, World, begin, run}
 use Rattle.demands.specs.Takes.{readyNow}
 use Rattle.demands.proofs.Demands.{run-append, demands}
@@ -38,14 +38,14 @@ use Rattle.feed_join.specs.Printed.{Progress, pairLine, pairLines, doneWord, op
 use Rattle.feed_demands.specs.Records.{recordsAt, recordsFrom, recordsOf, entryIn, entriesIn, plainIn}
 use Rattle.feed_demands.specs.Course.{callOf, callsOf, Stop, FeedEnds, Refusal, Course, stops, goesOn, answeredBy, courseAt, courseFrom, courseOf}
 use Rattle.feed_demands.specs.Prints.{worldOf, standing, lastLine, Prints}
-use Rattle.feed_demands.proofs.Record.{call-refused, calls-state, calls-out, takes-all, ofJournal, calls-entries}
+use Rattle.feed_demands.proofs.Record.{call-refused, calls-state, calls-out, takes-all, calls-entries}
 
 -- behind k records that came to w, a text is what a course prints of some records
 record Tells (k : ℕ) (w : World) (text : List ℕ) (records : List Record) (c : Course) : Type 0 where
   lines : pairLines (w .out) ++ text ≡ pairLines (run w (c .calls) .out) ++ lastLine (c .stop) (standing (k + length (c .accepted)) (run w (c .calls)))
   first : IsPrefix (c .accepted) records
   all : c .stop ≡ FeedEnds → c .accepted ≡ records
-  entries : (side : Side) → ofJournal side (run w (c .calls)) ≡ ofJournal side w ++ entriesIn side (c .accepted)
+  entries : (side : Side) → acceptedOf side (run w (c .calls)) ≡ acceptedOf side w ++ entriesIn side (c .accepted)
   none : readyNow (run w (c .calls)) ≡ []
 
 module _ (k : ℕ) (w : World) where
@@ -58,7 +58,7 @@ module _ (k : ℕ) (w : World) where
         lines = ap₂ (λ (v : World) (n : ℕ). pairLines (v .out) ++ lastLine stop (standing n v)) (sym same) no-more;
         first = (records, refl);
         all = all;
-        entries = λ side. ap (ofJournal side) same ∙ sym (append-nil (ofJournal side w));
+        entries = λ side. ap (acceptedOf side) same ∙ sym (append-nil (acceptedOf side w));
         none = ap readyNow same ∙ none;
       }
 
@@ -85,10 +85,10 @@ module _ (k : ℕ) (w : World) where
           first = (t .first .0, ap {B = List Record} (λ l. found ∷ l) (t .first .1));
           all = λ e. ap {B = List Record} (λ l. found ∷ l) (t .all e);
           entries = λ side.
-              ap (ofJournal side) joined
+              ap (acceptedOf side) joined
               ∙ t .entries side
               ∙ ap (λ (l : List Entry). l ++ entriesIn side (c .accepted)) (calls-entries side w found a)
-              ∙ append-assoc (ofJournal side w) (entryIn side found) (entriesIn side (c .accepted));
+              ∙ append-assoc (acceptedOf side w) (entryIn side found) (entriesIn side (c .accepted));
           none = ap readyNow joined ∙ t .none;
         }
 

@@ -16,6 +16,7 @@ use Rattle.join.specs.State.{State, Sound}
 use Rattle.join.specs.Calls.{sideOf, readyOf, without}
 use Rattle.join.proofs.Kept.{without-kept}
 use Rattle.join.proofs.Ready.{take-ready, without-none, without-without}
+use Rattle.demands.specs.Demands.{acceptedOf}
 use Rattle.demands.specs.History.{Call, Enter, Mark, Close, Take, ofSide, accepts, World, step, run, isRefusal}
 use Rattle.demands.specs.Takes.{readyNow}
 use Rattle.demands.proofs.Demands.{run-append}
@@ -82,32 +83,27 @@ takes-all w h found =
 
 -- ---- the entries that it brings
 
--- those of a journal that were accepted
-abbrev pub ofJournal : Side → World → List Entry
-ofJournal A w = w .ofA
-ofJournal B w = w .ofB
-
 module _ (side : Side) where
-  step-entries : (w : World) (c : Call) → ofJournal side (step w c) ≡ ofJournal side w ++ accepts side (w .state) c
+  step-entries : (w : World) (c : Call) → acceptedOf side (step w c) ≡ acceptedOf side w ++ accepts side (w .state) c
   step-entries w c = go side
     where
-      go : (side : Side) → ofJournal side (step w c) ≡ ofJournal side w ++ accepts side (w .state) c
+      go : (side : Side) → acceptedOf side (step w c) ≡ acceptedOf side w ++ accepts side (w .state) c
       go A = refl
       go B = refl
 
-  takes-entries : (k : ℕ) (w : World) → ofJournal side (run w (replicate k Take)) ≡ ofJournal side w
+  takes-entries : (k : ℕ) (w : World) → acceptedOf side (run w (replicate k Take)) ≡ acceptedOf side w
   takes-entries zero w = refl
-  takes-entries (suc k) w = takes-entries k (step w Take) ∙ step-entries w Take ∙ append-nil (ofJournal side w)
+  takes-entries (suc k) w = takes-entries k (step w Take) ∙ step-entries w Take ∙ append-nil (acceptedOf side w)
 
-  call-entries : (w : World) (found : Record) → heard (w .state) found .answer ≡ Accepted → ofJournal side (run w (callOf found)) ≡ ofJournal side w ++ entryIn side found
-  call-entries w (record-of.Entry stream e) a = step-entries w (Enter stream e) ∙ ap (λ (x : Answer). ofJournal side w ++ unlessRefused x (ofSide side (sideOf stream) e) []) a
+  call-entries : (w : World) (found : Record) → heard (w .state) found .answer ≡ Accepted → acceptedOf side (run w (callOf found)) ≡ acceptedOf side w ++ entryIn side found
+  call-entries w (record-of.Entry stream e) a = step-entries w (Enter stream e) ∙ ap (λ (x : Answer). acceptedOf side w ++ unlessRefused x (ofSide side (sideOf stream) e) []) a
   call-entries w (record-of.Mark stream time) a = step-entries w (Mark stream time)
   call-entries w (record-of.Close stream) a = step-entries w (Close stream)
-  call-entries w (record-of.Note size) a = sym (append-nil (ofJournal side w))
+  call-entries w (record-of.Note size) a = sym (append-nil (acceptedOf side w))
 
-  pub calls-entries : (w : World) (found : Record) → heard (w .state) found .answer ≡ Accepted → ofJournal side (run w (callsOf w found)) ≡ ofJournal side w ++ entryIn side found
+  pub calls-entries : (w : World) (found : Record) → heard (w .state) found .answer ≡ Accepted → acceptedOf side (run w (callsOf w found)) ≡ acceptedOf side w ++ entryIn side found
   unfolding callsOf
   calls-entries w found a =
       let own = run w (callOf found) in
       let takes = length (readyNow own) in
-      ap (ofJournal side) (run-append w (callOf found) (replicate takes Take)) ∙ takes-entries takes own ∙ call-entries w found a
+      ap (acceptedOf side) (run-append w (callOf found) (replicate takes Take)) ∙ takes-entries takes own ∙ call-entries w found a
