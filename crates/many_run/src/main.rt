@@ -53,6 +53,7 @@ fn rule_in(kind: u32, width: u32) -> Rule {
     }
 }
 
+// How many bytes may be read of a feed of this size.
 fn limit_of(by_limit: bool, size: usize) -> usize
     requires { ⌜ size ≤ 65536 ⌝ }
     ensures { λ r. ⌜ r ≤ 4294967295 ⌝ }
@@ -60,6 +61,7 @@ fn limit_of(by_limit: bool, size: usize) -> usize
     if by_limit { size } else { READ_LIMIT as usize }
 }
 
+// Is the input known to end here? Where the limit ends the feed, that is never told.
 fn knows_end(by_limit: bool, end: usize, all: usize) -> bool {
     !by_limit && end == all
 }
