@@ -1,5 +1,5 @@
 -- What a later moment of a run keeps of an earlier one: clocks only move on, what was handed out stays handed out, nothing new starts below the clocks, neither pairs nor entries, and a closed journal brings no more.
-use Prim.Native.Nat.{ℕ, _≤_}
+use Prim.Native.Nat.{_≤_}
 use mathlib.Core.Bool.{Bool, true, false, cond, _&&_, false≢true}
 use mathlib.Core.List.{List, [], _∷_, _++_, append-assoc, append-nil, IsPrefix}
 use mathlib.Core.Path.{_≡_, refl, sym, ap, _∙_}

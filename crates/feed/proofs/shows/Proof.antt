@@ -8,7 +8,6 @@ use mathlib.Core.List.{List}
 use mathlib.Core.Path.{_≡_, refl, sym, ap, _∙_}
 use lib.Dec.{leb}
 use lib.ListN.{length}
-use denote.Ref.{now}
 use Rattle.feed.specs.Reading.{lengthIn, outside, shows}
 use Rattle.feed.proofs.shows.Statement.{statement}
 use Rattle.feed.proofs.shows.Tie as tie

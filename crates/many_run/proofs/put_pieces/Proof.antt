@@ -1,10 +1,10 @@
 -- `put_pieces` ends, and each of its steps is lent what it requires. The invariant of its loop: the run is kept, and the places in feed and buffer are within them. The measure: what is left of the feed, and how far the window can still grow.
 use borrow.Author.Needs.{needs}
-use Prim.Native.Nat.{ℕ, _+_, _-_, _≤_}
+use Prim.Native.Nat.{_+_, _-_, _≤_}
 use native.Mathlib.Omega.{arith}
 use mathlib.Core.Path.{_≡_, refl, sym, subst, _∙_}
 use denote.Ref.{now}
-use lib.ListN.{length, take, drop, length-take, length-drop}
+use lib.ListN.{length, drop, length-take}
 use Rattle.feed_join.specs.Printed.{Progress}
 use Rattle.feed_join.specs.Step.{progressWith, Kept}
 use Rattle.feed_join.proofs.Fresh.{begun-with}

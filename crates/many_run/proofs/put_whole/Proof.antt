@@ -1,9 +1,6 @@
 -- `put_whole` meets its contract: what is put into a buffer is no longer than it.
 use borrow.Author.Needs.{needs}
-use Prim.Native.Nat.{ℕ}
-use mathlib.Core.List.{List}
-use mathlib.Core.Path.{_≡_, sym, ap, _∙_}
-use denote.Ref.{now}
+use mathlib.Core.Path.{sym, ap, _∙_}
 use Rattle.whole_feed.specs.declared.Printing.{Printing}
 use Rattle.whole_feed.specs.Printing.{printout}
 use Rattle.whole_feed.proofs.Fitted.{filled-few}

@@ -1,7 +1,6 @@
 -- `same` ends, and reads within both.
 use Prim.Native.Nat.{_-_, _≤_}
 use native.Mathlib.Omega.{arith}
-use mathlib.Core.Path.{_≡_}
 use lib.ListN.{length}
 use Rattle.many_run.proofs.same.Statement.{statement}
 use Rattle.many_run.proofs.same.Tie as tie

@@ -3,7 +3,7 @@ use borrow.Author.Needs.{needs}
 use Prim.Native.Nat.{ℕ, _+_, _-_, _*_, _≤_}
 use native.Mathlib.Omega.{arith}
 use mathlib.Core.Bool.{true, true≢false}
-use mathlib.Core.List.{List, []}
+use mathlib.Core.List.{List}
 use mathlib.Core.Logic.{_⊎_, inl, inr}
 use mathlib.Core.Path.{_≡_, refl, sym, ap, subst, _∙_}
 use denote.Enum.Declared.{tagOf}
@@ -20,7 +20,7 @@ use Rattle.feed_join.specs.declared.Went.the-variants.{More, On, Ended}
 use Rattle.feed_join.specs.Printed.{Progress, printed, readLimit}
 use Rattle.feed_join.specs.Step.{Effect, effectWith, stepped, progressWith, Kept}
 use Rattle.feed_join.proofs.Fresh.{begun-with}
-use Rattle.feed_join.proofs.Moves.{Moves, moves}
+use Rattle.feed_join.proofs.Moves.{moves}
 use Rattle.feed_join.proofs.Steps.{kept-begun}
 use Rattle.feed_join.proofs.Went.{the-type as went-type}
 use Rattle.whole_feed.proofs.Text.{Stands, stands-begun, stands-ended, stands-on}
