@@ -37,10 +37,10 @@ put-fits : (lines out : List ℕ) → length (put 0 lines out) ≡ length out �
 unfolding put
 put-fits lines out e = let long = simp (length-append, length-take, length-drop) at e in omega arith
 
-pub on-is-not-more : {P : Type 0} → On ≡ More → P
+on-is-not-more : {P : Type 0} → On ≡ More → P
 on-is-not-more e = absurd (let z : _≡_ {A = ℕ} 0 1 = cc in omega arith)
 
-pub ended-is-not-more : {P : Type 0} → Ended ≡ More → P
+ended-is-not-more : {P : Type 0} → Ended ≡ More → P
 ended-is-not-more e = absurd (let z : _≡_ {A = ℕ} 0 1 = cc in omega arith)
 
 pub ended-is-not-on : {P : Type 0} → Ended ≡ On → P
