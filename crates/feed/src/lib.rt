@@ -146,10 +146,10 @@ impl Feed {
     {
         let lengths = self.lengths(kind);
         let Lengths::Within(shortest, longest) = lengths else {
-            return Head::Refused(11);
+            return Head::Refused(refusals::KIND);
         };
         if outside(size, shortest, longest) {
-            return Head::Refused(10);
+            return Head::Refused(refusals::LENGTH);
         }
         Head::Whole(kind, size)
     }
@@ -162,14 +162,14 @@ impl Feed {
             return Head::End;
         }
         if s.len() < 2 {
-            return Head::Refused(9);
+            return Head::Refused(refusals::CUT);
         }
         let size = get16(s, 0);
         if outside(size, 2, 66) {
-            return Head::Refused(10);
+            return Head::Refused(refusals::LENGTH);
         }
         if s.len() - 2 < size as usize {
-            return Head::Refused(9);
+            return Head::Refused(refusals::CUT);
         }
         let kind = get16(s, 2);
         self.whole(kind, size)
@@ -270,7 +270,7 @@ fn found(at: usize, record: Record, next: usize) -> Reading
     if record.stream_known() {
         Reading::Found(record, next)
     } else {
-        Reading::Refused(1, at)
+        Reading::Refused(refusals::STREAM, at)
     }
 }
 

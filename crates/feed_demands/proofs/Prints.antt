@@ -34,7 +34,7 @@ use Rattle.feed.specs.declared.Record.{Record}
 use Rattle.feed.specs.Reading.{reading}
 use Rattle.feed.proofs.Readings.{found-ends}
 use Rattle.lines.specs.Line.{line}
-use Rattle.feed_join.specs.Printed.{Progress, pairLine, pairLines, doneWord, openWord, endLine, refusedLine, heard, onward, answered, deed, continued, printedFrom, printed}
+use Rattle.steps.specs.Printed.{Progress, pairLine, pairLines, doneWord, openWord, endLine, refusedLine, heard, onward, answered, deed, continued, printedFrom, printed}
 use Rattle.feed_demands.specs.Records.{recordsAt, recordsFrom, recordsOf, entryIn, entriesIn, plainIn}
 use Rattle.feed_demands.specs.Course.{callOf, callsOf, Stop, FeedEnds, Refusal, Course, stops, goesOn, answeredBy, courseAt, courseFrom, courseOf}
 use Rattle.feed_demands.specs.Prints.{worldOf, standing, lastLine, Prints}

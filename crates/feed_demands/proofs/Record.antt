@@ -25,7 +25,7 @@ use Rattle.demands.proofs.Refused.{step-refused}
 use Rattle.demands.proofs.Takes.{takes-drop}
 use Rattle.feed.specs.declared.Record.{Record}
 use Rattle.feed.specs.declared.Record.the-variants as record-of
-use Rattle.feed_join.specs.Printed.{heard}
+use Rattle.steps.specs.Printed.{heard}
 use Rattle.feed_demands.specs.Records.{entryIn}
 use Rattle.feed_demands.specs.Course.{callOf, callsOf}
 use Rattle.feed_demands.specs.Prints.{TakesAll}

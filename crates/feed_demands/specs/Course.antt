@@ -12,7 +12,7 @@ use Rattle.feed.specs.declared.Reading.the-variants.{Found, Refused as refusedR
 use Rattle.feed.specs.declared.Record.{Record}
 use Rattle.feed.specs.declared.Record.the-variants as record-of
 use Rattle.feed.specs.Reading.{reading}
-use Rattle.feed_join.specs.Printed.{heard}
+use Rattle.steps.specs.Printed.{heard}
 
 -- the call of a record; a note rides along and affects nothing
 abbrev pub callOf : Record → List Call

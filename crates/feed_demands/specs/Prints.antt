@@ -13,7 +13,7 @@ use Rattle.demands.specs.History.{Call, World, run}
 use Rattle.demands.specs.Takes.{readyNow}
 use Rattle.feed.specs.declared.Record.{Record}
 use Rattle.lines.specs.Line.{line}
-use Rattle.feed_join.specs.Printed.{Progress, pairLines, doneWord, endLine, refusedLine, printed}
+use Rattle.steps.specs.Printed.{Progress, pairLines, doneWord, endLine, refusedLine, printed}
 use Rattle.feed_demands.specs.Records.{recordsOf, entriesIn, plainIn}
 use Rattle.feed_demands.specs.Course.{callsOf, Stop, FeedEnds, Refusal, Course, courseOf}
 

@@ -1,15 +1,15 @@
 // Standard input joined through a window of bounded size, and what is printed of it written to standard output.
-use feed_join::Counts;
-use feed_join::ROOM;
-use feed_join::Stepped;
-use feed_join::Went;
-use feed_join::least;
-use feed_join::step;
 use join::Join;
 use libc::STDERR_FILENO;
 use libc::STDIN_FILENO;
 use libc::STDOUT_FILENO;
 use pairing::Rule;
+use steps::Counts;
+use steps::ROOM;
+use steps::Stepped;
+use steps::Went;
+use steps::least;
+use steps::step;
 ghost use mathlib.Core.Path.{_≡_};
 ghost use mathlib.Core.Bool.{true, false};
 ghost use mathlib.Core.List.{_++_};
@@ -17,7 +17,7 @@ ghost use mathlib.Core.Logic.{_⊎_};
 ghost use Prim.Native.Nat.{_+_, _-_, _≤_, _<_};
 ghost use lib.ListN.{length, take, drop};
 ghost use lib.Seq.{slice};
-ghost use Rattle.feed_join.specs.Step.{effectWith, stepped, progressWith, Kept, room};
+ghost use Rattle.steps.specs.Step.{effectWith, stepped, progressWith, Kept, room};
 
 // Which bytes of the window are not used yet, and whether the input is known to end behind them.
 struct Unused {

@@ -77,10 +77,10 @@ pub fn write_entry(buf: &mut [u8], stream: u16, entry: Entry) -> Writing
     ensures { λ r. ⌜ (r, now (buf .exit)) ≡ recordWriting (Record.Entry stream «entry») [] (now (buf .entry)) ⌝ }
 {
     if 2 <= stream {
-        return Writing::Refused(1);
+        return Writing::Refused(refusals::STREAM);
     }
     if buf.len() < ENTRY_WHOLE {
-        return Writing::Refused(12);
+        return Writing::Refused(refusals::BUFFER);
     }
     put_head(buf, ENTRY_LENGTH, ENTRY);
     put16(buf, 4, stream);
@@ -94,10 +94,10 @@ pub fn write_mark(buf: &mut [u8], stream: u16, time: u32) -> Writing
     ensures { λ r. ⌜ (r, now (buf .exit)) ≡ recordWriting (Record.Mark stream time) [] (now (buf .entry)) ⌝ }
 {
     if 2 <= stream {
-        return Writing::Refused(1);
+        return Writing::Refused(refusals::STREAM);
     }
     if buf.len() < MARK_WHOLE {
-        return Writing::Refused(12);
+        return Writing::Refused(refusals::BUFFER);
     }
     put_head(buf, MARK_LENGTH, MARK);
     put16(buf, 4, stream);
@@ -110,10 +110,10 @@ pub fn write_close(buf: &mut [u8], stream: u16) -> Writing
     ensures { λ r. ⌜ (r, now (buf .exit)) ≡ recordWriting (Record.Close stream) [] (now (buf .entry)) ⌝ }
 {
     if 2 <= stream {
-        return Writing::Refused(1);
+        return Writing::Refused(refusals::STREAM);
     }
     if buf.len() < CLOSE_WHOLE {
-        return Writing::Refused(12);
+        return Writing::Refused(refusals::BUFFER);
     }
     put_head(buf, CLOSE_LENGTH, CLOSE);
     put16(buf, 4, stream);
@@ -126,10 +126,10 @@ pub fn write_note(buf: &mut [u8], text: &[u8]) -> Writing
 {
     let size = text.len();
     if 64 < size {
-        return Writing::Refused(10);
+        return Writing::Refused(refusals::LENGTH);
     }
     if buf.len() < 4 + size {
-        return Writing::Refused(12);
+        return Writing::Refused(refusals::BUFFER);
     }
     put_head(buf, (2 + size) as u16, NOTE);
     lines::put_text(buf, 4, text);
@@ -141,7 +141,7 @@ pub fn write_pair(buf: &mut [u8], pair: Pair) -> Writing
     ensures { λ r. ⌜ (r, now (buf .exit)) ≡ pairWriting «pair» (now (buf .entry)) ⌝ }
 {
     if buf.len() < PAIR_WHOLE {
-        return Writing::Refused(12);
+        return Writing::Refused(refusals::BUFFER);
     }
     put_head(buf, PAIR_LENGTH, PAIR);
     put_two(buf, 4, pair.meeting.start, pair.meeting.end);

@@ -129,19 +129,19 @@ fn entry_answer(own: Half, other: Gate, e: Entry) -> Answer
     let journal = own.journal;
     let gate = journal.gate;
     if gate.closed() {
-        return Answer::Refused(2);
+        return Answer::Refused(refusals::CLOSED);
     }
     if !e.span.proper() {
-        return Answer::Refused(3);
+        return Answer::Refused(refusals::IMPROPER);
     }
     if gate.behind(e.span.start) {
-        return Answer::Refused(4);
+        return Answer::Refused(refusals::BEHIND);
     }
     if Join::ENTRIES <= journal.accepted {
-        return Answer::Refused(5);
+        return Answer::Refused(refusals::SPENT);
     }
     if other.wants(e) && Join::HELD <= own.area.count {
-        return Answer::Refused(6);
+        return Answer::Refused(refusals::AREA_FULL);
     }
     Answer::Accepted
 }
@@ -234,7 +234,7 @@ fn enter(
     let new = other_area.partners(others, rule, e);
     if Join::WAITING < waiting.count + new {
         return Turned {
-            answer: Answer::Refused(7),
+            answer: Answer::Refused(refusals::QUEUE_FULL),
             own,
             other,
             queue: waiting,
@@ -401,7 +401,7 @@ impl Join {
         let gate = journal.gate;
         if gate.closed() {
             return Called {
-                answer: Answer::Refused(2),
+                answer: Answer::Refused(refusals::CLOSED),
                 join: self,
             };
         }
@@ -489,13 +489,13 @@ impl Join {
     {
         if !self.sound(a, b, rows) {
             return Called {
-                answer: Answer::Refused(8),
+                answer: Answer::Refused(refusals::UNSOUND),
                 join: self,
             };
         }
         if 1 < stream {
             return Called {
-                answer: Answer::Refused(1),
+                answer: Answer::Refused(refusals::STREAM),
                 join: self,
             };
         }
@@ -514,13 +514,13 @@ impl Join {
     {
         if !self.sound(a, b, rows) {
             return Called {
-                answer: Answer::Refused(8),
+                answer: Answer::Refused(refusals::UNSOUND),
                 join: self,
             };
         }
         if 1 < stream {
             return Called {
-                answer: Answer::Refused(1),
+                answer: Answer::Refused(refusals::STREAM),
                 join: self,
             };
         }
@@ -538,13 +538,13 @@ impl Join {
     {
         if !self.sound(a, b, rows) {
             return Called {
-                answer: Answer::Refused(8),
+                answer: Answer::Refused(refusals::UNSOUND),
                 join: self,
             };
         }
         if 1 < stream {
             return Called {
-                answer: Answer::Refused(1),
+                answer: Answer::Refused(refusals::STREAM),
                 join: self,
             };
         }
@@ -556,7 +556,7 @@ impl Join {
     {
         if !self.sound(a, b, rows) {
             return Taken {
-                answer: Took::Refused(8),
+                answer: Took::Refused(refusals::UNSOUND),
                 join: self,
             };
         }

@@ -122,13 +122,13 @@ impl Journal {
         let gate = self.gate;
         if gate.closed() {
             return Marked {
-                answer: Answer::Refused(2),
+                answer: Answer::Refused(refusals::CLOSED),
                 journal: self,
             };
         }
         if gate.behind(time) {
             return Marked {
-                answer: Answer::Refused(4),
+                answer: Answer::Refused(refusals::BEHIND),
                 journal: self,
             };
         }

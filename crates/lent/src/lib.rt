@@ -25,7 +25,7 @@ fn answer(given: Entry, found: usize) -> Counted
     if given.span.proper() {
         Counted::Partners(found)
     } else {
-        Counted::Refused(3)
+        Counted::Refused(refusals::IMPROPER)
     }
 }
 

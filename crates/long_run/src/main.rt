@@ -1,4 +1,4 @@
 // joinfeed on a feed several windows long.
 fn main() {
-    feed_stream::join_input(feed_join::READ_LIMIT);
+    feed_stream::join_input(steps::READ_LIMIT);
 }

@@ -1,13 +1,13 @@
 // Joins many feeds, each by its rule, and prints what is printed of each. Each is joined whole, and again through windows that grow by a byte at a time; it says so where the two differ.
-use feed_join::Counts;
-use feed_join::READ_LIMIT;
-use feed_join::ROOM;
-use feed_join::Went;
-use feed_join::step;
 use join::Join;
 use libc::STDIN_FILENO;
 use libc::STDOUT_FILENO;
 use pairing::Rule;
+use steps::Counts;
+use steps::READ_LIMIT;
+use steps::ROOM;
+use steps::Went;
+use steps::step;
 use whole_feed::Printing;
 use whole_feed::print_feed;
 ghost use mathlib.Core.Path.{_≡_};

@@ -17,10 +17,10 @@ use Rattle.feed.specs.declared.Reading.{Reading}
 use Rattle.feed.specs.declared.Reading.the-variants.{Found, Refused as refusedReading, End}
 use Rattle.feed.specs.Reading.{reading}
 use Rattle.feed.proofs.Readings.{found-ends}
-use Rattle.feed_join.specs.declared.Went.the-variants.{On, Ended}
-use Rattle.feed_join.specs.Printed.{Progress, begun, pairLines, endLine, refusedLine, heard, Ends, Goes, onward, answered, deed, continued, printedFrom, printed}
-use Rattle.feed_join.specs.Step.{Effect, shown, tells, effectOf, stepped}
-use Rattle.feed_join.proofs.Moves.{ended-is-not-on}
+use Rattle.steps.specs.declared.Went.the-variants.{On, Ended}
+use Rattle.steps.specs.Printed.{Progress, begun, pairLines, endLine, refusedLine, heard, Ends, Goes, onward, answered, deed, continued, printedFrom, printed}
+use Rattle.steps.specs.Step.{Effect, shown, tells, effectOf, stepped}
+use Rattle.steps.proofs.Moves.{ended-is-not-on}
 
 -- ---- a step that is shown all that is left of the feed
 

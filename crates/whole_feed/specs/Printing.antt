@@ -6,7 +6,7 @@ use lib.Dec.{leb}
 use lib.ListN.{length}
 use Rattle.lists.specs.Put.{put}
 use Rattle.pairing.specs.declared.Rule.{Rule}
-use Rattle.feed_join.specs.Printed.{printed, readLimit}
+use Rattle.steps.specs.Printed.{printed, readLimit}
 use Rattle.whole_feed.specs.declared.Printing.{Printing}
 use Rattle.whole_feed.specs.declared.Printing.the-variants.{Filled, TooShort}
 

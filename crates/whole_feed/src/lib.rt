@@ -1,17 +1,17 @@
 // A feed that is at hand joined whole: what is printed of it, put into a buffer that the caller lends.
-use feed_join::Counts;
-use feed_join::READ_LIMIT;
-use feed_join::ROOM;
-use feed_join::Went;
-use feed_join::step;
 use join::Join;
 use pairing::Rule;
+use steps::Counts;
+use steps::READ_LIMIT;
+use steps::ROOM;
+use steps::Went;
+use steps::step;
 ghost use mathlib.Core.Path.{_≡_};
 ghost use Prim.Native.Nat.{_+_, _≤_};
 ghost use lib.ListN.{length};
 ghost use Rattle.lists.specs.Put.{put};
-ghost use Rattle.feed_join.specs.Printed.{printed, readLimit};
-ghost use Rattle.feed_join.specs.Step.{room};
+ghost use Rattle.steps.specs.Printed.{printed, readLimit};
+ghost use Rattle.steps.specs.Step.{room};
 ghost use Rattle.whole_feed.specs.Printing.{printout, printing};
 
 // What printing a feed into a buffer comes to.

@@ -6,10 +6,10 @@ use mathlib.Core.Path.{_≡_, sym, subst}
 use lib.ListN.{length}
 use lib.Seq.{length-take-le}
 use Rattle.pairing.specs.declared.Rule.the-variants.{Equal}
-use Rattle.feed_join.specs.Step.{progressWith, Kept}
-use Rattle.feed_join.proofs.Fresh.{begun-with}
-use Rattle.feed_join.proofs.Steps.{kept-begun}
-use Rattle.feed_join.specs.Printed.{Progress}
+use Rattle.steps.specs.Step.{progressWith, Kept}
+use Rattle.steps.proofs.Fresh.{begun-with}
+use Rattle.steps.proofs.Steps.{kept-begun}
+use Rattle.steps.specs.Printed.{Progress}
 use Rattle.feed_stream.proofs.Ending.{remaining, less-on, less-more}
 use Rattle.feed_stream.proofs.join_input.Statement.{statement}
 use Rattle.feed_stream.proofs.join_input.Tie as tie

@@ -8,8 +8,8 @@ use mathlib.Core.Path.{_≡_, ap, _∙_}
 use denote.Ref.{now}
 use lib.ListN.{length, take, drop, length-drop}
 use lib.Seq.{slice, length-take-le}
-use Rattle.feed_join.specs.Step.{effectWith, stepped, progressWith}
-use Rattle.feed_join.proofs.Moves.{moves}
+use Rattle.steps.specs.Step.{effectWith, stepped, progressWith}
+use Rattle.steps.proofs.Moves.{moves}
 use Rattle.feed_stream.proofs.Parts.{part-drop, drop-back, part-slice}
 use Rattle.feed_stream.proofs.step_on.Statement.{statement}
 use Rattle.feed_stream.proofs.step_on.Tie as tie

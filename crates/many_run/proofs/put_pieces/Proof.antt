@@ -5,11 +5,11 @@ use native.Mathlib.Omega.{arith}
 use mathlib.Core.Path.{_≡_, refl, sym, subst, _∙_}
 use denote.Ref.{now}
 use lib.ListN.{length, drop, length-take}
-use Rattle.feed_join.specs.Printed.{Progress}
-use Rattle.feed_join.specs.Step.{progressWith, Kept}
-use Rattle.feed_join.proofs.Fresh.{begun-with}
-use Rattle.feed_join.proofs.Moves.{moves}
-use Rattle.feed_join.proofs.Steps.{kept-begun}
+use Rattle.steps.specs.Printed.{Progress}
+use Rattle.steps.specs.Step.{progressWith, Kept}
+use Rattle.steps.proofs.Fresh.{begun-with}
+use Rattle.steps.proofs.Moves.{moves}
+use Rattle.steps.proofs.Steps.{kept-begun}
 use Rattle.many_run.proofs.put_pieces.Statement.{statement}
 use Rattle.many_run.proofs.put_pieces.Tie as tie
 

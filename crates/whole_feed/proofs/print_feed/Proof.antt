@@ -8,7 +8,7 @@ use mathlib.Core.Path.{_≡_, refl, ap, _∙_}
 use denote.Ref.{now}
 use lib.ListN.{length}
 use Rattle.lists.specs.Put.{put}
-use Rattle.feed_join.specs.Printed.{printed, readLimit}
+use Rattle.steps.specs.Printed.{printed, readLimit}
 use Rattle.whole_feed.specs.declared.Printing.the-variants.{Filled, TooShort}
 use Rattle.whole_feed.specs.Printing.{printout, fitted}
 use Rattle.whole_feed.proofs.print_feed.Statement.{statement}

@@ -15,14 +15,14 @@ use Rattle.join.specs.declared.Join.{Join}
 use Rattle.join.specs.State.{freshState, stateOf}
 use Rattle.feed.proofs.Fields.{drop-first}
 use Rattle.feed.proofs.Readings.{rest-all}
-use Rattle.feed_join.specs.declared.Went.{Went}
-use Rattle.feed_join.specs.declared.Went.the-variants.{More, On, Ended}
-use Rattle.feed_join.specs.Printed.{Progress, printed, readLimit}
-use Rattle.feed_join.specs.Step.{Effect, effectWith, stepped, progressWith, Kept}
-use Rattle.feed_join.proofs.Fresh.{begun-with}
-use Rattle.feed_join.proofs.Moves.{moves}
-use Rattle.feed_join.proofs.Steps.{kept-begun}
-use Rattle.feed_join.proofs.Went.{the-type as went-type}
+use Rattle.steps.specs.declared.Went.{Went}
+use Rattle.steps.specs.declared.Went.the-variants.{More, On, Ended}
+use Rattle.steps.specs.Printed.{Progress, printed, readLimit}
+use Rattle.steps.specs.Step.{Effect, effectWith, stepped, progressWith, Kept}
+use Rattle.steps.proofs.Fresh.{begun-with}
+use Rattle.steps.proofs.Moves.{moves}
+use Rattle.steps.proofs.Steps.{kept-begun}
+use Rattle.steps.proofs.Went.{the-type as went-type}
 use Rattle.whole_feed.proofs.Text.{Stands, stands-begun, stands-ended, stands-on}
 use Rattle.whole_feed.proofs.put_steps.Statement.{statement}
 use Rattle.whole_feed.proofs.put_steps.Tie as tie

@@ -1,0 +1,260 @@
+// A feed joined record by record, through whatever window shows it: what joinfeed does at each record, and what it puts out.
+use feed::Reading;
+use feed::Record;
+use join::Called;
+use join::Join;
+use join::side_of;
+use journal::Answer;
+ghost use mathlib.Core.Path.{_≡_};
+ghost use mathlib.Core.Bool.{true};
+ghost use mathlib.Core.List.{[], _∷_, _++_, flatMap};
+ghost use Prim.Native.Nat.{_+_, _-_, _*_, _≤_, _<_, min};
+ghost use lib.ListN.{length, take};
+ghost use Rattle.lists.specs.Judge.{chain};
+ghost use Rattle.lists.specs.Put.{put};
+ghost use Rattle.lists.specs.Store.{Rows};
+ghost use Rattle.pairing.specs.Pair.{comesBefore};
+ghost use Rattle.queue.specs.Queue as the_queue;
+ghost use Rattle.join.specs.State.{Sound, stateWith};
+ghost use Rattle.join.specs.Calls.{outcome, readyOf};
+ghost use Rattle.feed.specs.Record.{streamKnown};
+ghost use Rattle.lines.specs.Line.{line};
+ghost use Rattle.steps.specs.Printed.{refusedWord, pairLines, endLine, heard, onward, answered};
+ghost use Rattle.steps.specs.Step.{effectWith, effectOf, tells, stepped, progressWith, Kept, room};
+
+// How many bytes of a feed are read.
+pub const READ_LIMIT: u32 = 4294967295;
+
+// How many bytes a step may put out: the lines of 256 pairs.
+pub const ROOM: usize = 22528;
+
+// How many records were accepted, and how many pair lines put out.
+pub struct Counts {
+    pub records: u32,
+    pub pairs: u64,
+}
+
+// What a step came to.
+pub enum Went {
+    // The window shows too little to tell: a record may go on behind it.
+    More,
+    // A record was accepted.
+    On,
+    // The last line is out.
+    Ended,
+}
+
+// What a step leaves, beside the lent places and the lent buffer.
+pub struct Stepped {
+    pub went: Went,
+    pub join: Join,
+    pub counts: Counts,
+    // How many bytes of the window were used, and how many of the buffer.
+    pub used: usize,
+    pub filled: usize,
+}
+
+// What handing out leaves.
+struct Handed {
+    join: Join,
+    counts: Counts,
+    filled: usize,
+}
+
+// The join hears a record.
+fn hear(
+    join: Join,
+    a: &mut area::Places,
+    b: &mut area::Places,
+    rows: &mut queue::Places,
+    record: Record,
+) -> Called
+    requires { ⌜ (Sound (stateWith join (now a) (now b) (now rows))) × (streamKnown «record» ≡ true) ⌝ }
+    ensures { λ r. ⌜ outcome (r .answer) (stateWith (r .join) (now (a .exit)) (now (b .exit)) (now (rows .exit))) ≡ heard (stateWith join (now (a .entry)) (now (b .entry)) (now (rows .entry))) «record» ⌝ }
+{
+    match record {
+        Record::Entry(stream, e) => join.entry_on(a, b, rows, side_of(stream), e),
+        Record::Mark(stream, time) => join.mark_on(a, b, side_of(stream), time),
+        Record::Close(stream) => join.close_on(a, b, side_of(stream)),
+        Record::Note(_) => Called {
+            answer: Answer::Accepted,
+            join,
+        },
+    }
+}
+
+// The lines of the first k waiting pairs, from the buffer's first byte on; answers how many bytes they have.
+fn put_pairs(out: &mut [u8], rows: &queue::Places, k: usize) -> usize
+    requires { ⌜ (k ≤ the_queue.places) × (length (now rows) ≡ the_queue.places) × (88 * k ≤ length (now out)) ⌝ }
+    ensures { λ r. ⌜ r ≡ length (flatMap line (take k (now (rows .entry)))) ⌝ }
+    ensures { λ _. ⌜ now (out .exit) ≡ put 0 (flatMap line (take k (now (rows .entry)))) (now (out .entry)) ⌝ }
+{
+    let mut at = 0;
+    let mut i = 0;
+    while i < k {
+        let row = rows[i];
+        at = lines::put_row(out, at, row);
+        i += 1;
+    }
+    at
+}
+
+// A last line, from the buffer's first byte on: a word and two numbers. Answers how many bytes it has.
+fn put_last(out: &mut [u8], word: &[u8], n: u64, m: u64) -> usize
+    requires { ⌜ length (now word) + length (line (n ∷ m ∷ [])) ≤ length (now out) ⌝ }
+    ensures { λ r. ⌜ r ≡ length (now (word .entry) ++ line (n ∷ m ∷ [])) ⌝ }
+    ensures { λ _. ⌜ now (out .exit) ≡ put 0 (now (word .entry) ++ line (n ∷ m ∷ [])) (now (out .entry)) ⌝ }
+{
+    lines::put_text(out, 0, word);
+    lines::put_two(out, word.len(), n, m)
+}
+
+// The last line of a feed that is refused.
+fn put_refused(out: &mut [u8], number: u32, records: u32) -> usize
+    requires { ⌜ room ≤ length (now out) ⌝ }
+    ensures { λ r. ⌜ r ≡ length (refusedWord ++ line (number ∷ records ∷ [])) ⌝ }
+    ensures { λ _. ⌜ now (out .exit) ≡ put 0 (refusedWord ++ line (number ∷ records ∷ [])) (now (out .entry)) ⌝ }
+{
+    put_last(out, b"refused ", number as u64, records as u64)
+}
+
+// The last line of a feed that ends.
+fn put_end(out: &mut [u8], join: Join, counts: Counts) -> usize
+    requires { ⌜ (room ≤ length (now out)) × (counts .pairs < 1000000000000) ⌝ }
+    ensures { λ r. ⌜ ((inA inB rows : Rows) → r ≡ length (endLine (progressWith join inA inB rows counts))) ⌝ }
+    ensures { λ _. ⌜ ((inA inB rows : Rows) → now (out .exit) ≡ put 0 (endLine (progressWith join inA inB rows counts)) (now (out .entry))) ⌝ }
+{
+    let journal_a = join.a.journal;
+    let gate_a = journal_a.gate;
+    let journal_b = join.b.journal;
+    let gate_b = journal_b.gate;
+    let records = counts.records as u64;
+    if gate_a.closed() && gate_b.closed() {
+        return put_last(out, b"done ", records, counts.pairs);
+    }
+    put_last(out, b"open ", records, counts.pairs)
+}
+
+// The ready pairs put out, and dropped at once.
+fn hand_out(join: Join, rows: &mut queue::Places, counts: Counts, out: &mut [u8]) -> Handed
+    requires { ⌜ (the_queue.Holds (join .queue) (now rows)) × (chain comesBefore (the_queue.waiting (join .queue) (now rows)) ≡ true) × (room ≤ length (now out)) × (counts .records < 4294967295) × (counts .pairs < 1000000000000) ⌝ }
+    ensures { λ r. ⌜ ((inA inB : Rows) → progressWith (r .join) inA inB (now (rows .exit)) (r .counts) ≡ onward (progressWith join inA inB (now (rows .entry)) counts) (stateWith join inA inB (now (rows .entry)))) ⌝ }
+    ensures { λ r. ⌜ ((inA inB : Rows) → r .filled ≡ length (pairLines (readyOf (stateWith join inA inB (now (rows .entry)))))) ⌝ }
+    ensures { λ r. ⌜ ((inA inB : Rows) → now (out .exit) ≡ put 0 (pairLines (readyOf (stateWith join inA inB (now (rows .entry))))) (now (out .entry))) ⌝ }
+{
+    let k = join.ready_on(rows);
+    let filled = put_pairs(out, rows, k);
+    let left = join.drop_on(rows, k);
+    Handed {
+        join: left,
+        counts: Counts {
+            records: counts.records + 1,
+            pairs: counts.pairs + k as u64,
+        },
+        filled,
+    }
+}
+
+// A record that was found: the join hears it, and what is then ready is put out.
+fn take_in(
+    join: Join,
+    a: &mut area::Places,
+    b: &mut area::Places,
+    rows: &mut queue::Places,
+    counts: Counts,
+    record: Record,
+    next: usize,
+    out: &mut [u8],
+) -> Stepped
+    requires { ⌜ (Sound (stateWith join (now a) (now b) (now rows))) × (streamKnown «record» ≡ true) × (room ≤ length (now out)) × (counts .records < 4294967295) × (counts .pairs < 1000000000000) ⌝ }
+    ensures { λ r. ⌜ effectWith r (now (a .exit)) (now (b .exit)) (now (rows .exit)) (now (out .exit)) ≡ effectOf (progressWith join (now (a .entry)) (now (b .entry)) (now (rows .entry)) counts) (now (out .entry)) (answered (progressWith join (now (a .entry)) (now (b .entry)) (now (rows .entry)) counts) next (heard (stateWith join (now (a .entry)) (now (b .entry)) (now (rows .entry))) «record» .answer) (heard (stateWith join (now (a .entry)) (now (b .entry)) (now (rows .entry))) «record» .state)) ⌝ }
+{
+    let called = hear(join, a, b, rows, record);
+    let after = called.join;
+    let answer = called.answer;
+    let Answer::Refused(number) = answer else {
+        let handed = hand_out(after, rows, counts, out);
+        let left = handed.join;
+        let counted = handed.counts;
+        return Stepped {
+            went: Went::On,
+            join: left,
+            counts: counted,
+            used: next,
+            filled: handed.filled,
+        };
+    };
+    let filled = put_refused(out, number, counts.records);
+    Stepped {
+        went: Went::Ended,
+        join: after,
+        counts,
+        used: 0,
+        filled,
+    }
+}
+
+// Does a window show all that can matter to the record that stands first in it, of a feed of which so many bytes may still be read?
+fn tells(left: usize, window: &[u8], ended: bool) -> bool
+    ensures { λ r. ⌜ r ≡ tells left (now (window .entry)) ended ⌝ }
+{
+    // 68 bytes show any record: its length need not be looked at.
+    ended || (left <= window.len() || (68 <= window.len() || feed::shows(window)))
+}
+
+pub fn least(a: usize, b: usize) -> usize
+    ensures { λ r. ⌜ r ≡ min a b ⌝ }
+{
+    if a < b { a } else { b }
+}
+
+// One step: the record that stands first in the window, if the window shows all that can matter to it. A refusal and the feed's end leave early.
+pub fn step(
+    join: Join,
+    a: &mut area::Places,
+    b: &mut area::Places,
+    rows: &mut queue::Places,
+    counts: Counts,
+    left: usize,
+    window: &[u8],
+    ended: bool,
+    out: &mut [u8],
+) -> Stepped
+    requires { ⌜ (Kept (progressWith join (now a) (now b) (now rows) counts) left) × (room ≤ length (now out)) ⌝ }
+    ensures { λ r. ⌜ effectWith r (now (a .exit)) (now (b .exit)) (now (rows .exit)) (now (out .exit)) ≡ stepped (progressWith join (now (a .entry)) (now (b .entry)) (now (rows .entry)) counts) left (now (window .entry)) ended (now (out .entry)) ⌝ }
+    ensures { λ r. ⌜ Kept (progressWith (r .join) (now (a .exit)) (now (b .exit)) (now (rows .exit)) (r .counts)) (left - r .used) ⌝ }
+{
+    if !tells(left, window, ended) {
+        return Stepped {
+            went: Went::More,
+            join,
+            counts,
+            used: 0,
+            filled: 0,
+        };
+    }
+    let size = least(left, window.len());
+    let shown = &window[..size];
+    let reading = feed::read(shown, 0);
+    let Reading::Found(record, next) = reading else {
+        let Reading::Refused(number, _) = reading else {
+            let filled = put_end(out, join, counts);
+            return Stepped {
+                went: Went::Ended,
+                join,
+                counts,
+                used: 0,
+                filled,
+            };
+        };
+        let filled = put_refused(out, number, counts.records);
+        return Stepped {
+            went: Went::Ended,
+            join,
+            counts,
+            used: 0,
+            filled,
+        };
+    };
+    take_in(join, a, b, rows, counts, record, next, out)
+}
