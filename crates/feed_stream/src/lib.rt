@@ -1,4 +1,5 @@
 // Standard input joined through a window of bounded size, and what is printed of it written to standard output.
+use framing::least;
 use join::Join;
 use libc::STDERR_FILENO;
 use libc::STDIN_FILENO;
@@ -8,7 +9,6 @@ use steps::Counts;
 use steps::ROOM;
 use steps::Stepped;
 use steps::Went;
-use steps::least;
 use steps::step;
 ghost use mathlib.Core.Path.{_≡_};
 ghost use mathlib.Core.Bool.{true, false};

@@ -1,16 +1,12 @@
--- The contract of a step allows one answer, one join, one pair of counts and one content of the places and of the buffer that it is lent, and that of `least` one number.
+-- The contract of a step allows one answer, one join, one pair of counts and one content of the places and of the buffer that it is lent.
 use Prim.Native.Nat.{ℕ}
 use mathlib.Core.List.{List}
 use denote.Ref.{now}
-use Rattle.unique.specs.Unique.{OneResult, OneOutcome}
-use Rattle.unique.proofs.Equation.{agree, one-by-equation}
+use Rattle.unique.specs.Unique.{OneOutcome}
+use Rattle.unique.proofs.Equation.{agree}
 use Rattle.lists.specs.Store.{Rows}
 use Rattle.steps.specs.declared.Stepped.{Stepped}
-use Rattle.steps.proofs.least.Reads as least
 use Rattle.steps.proofs.step.Reads as step
-
-one-least : OneResult least.Post
-one-least = one-by-equation _ _
 
 one-step : OneOutcome {Seen = Stepped × (Rows × (Rows × (Rows × List ℕ)))}
     (λ κs r left. (r, (now (left .1 .0), (now (left .1 .1 .0), (now (left .1 .1 .1 .0), now (left .1 .1 .1 .1 .1 .1 .1 .1 .0))))))

@@ -1,6 +1,7 @@
 // A feed joined record by record, through whatever window shows it: what joinfeed does at each record, and what it puts out.
 use feed::Reading;
 use feed::Record;
+use framing::least;
 use join::Called;
 use join::Join;
 use join::side_of;
@@ -8,7 +9,7 @@ use journal::Answer;
 ghost use mathlib.Core.Path.{_≡_};
 ghost use mathlib.Core.Bool.{true};
 ghost use mathlib.Core.List.{[], _∷_, _++_, flatMap};
-ghost use Prim.Native.Nat.{_+_, _-_, _*_, _≤_, _<_, min};
+ghost use Prim.Native.Nat.{_+_, _-_, _*_, _≤_, _<_};
 ghost use lib.ListN.{length, take};
 ghost use Rattle.lists.specs.Judge.{chain};
 ghost use Rattle.lists.specs.Put.{put};
@@ -200,12 +201,6 @@ fn tells(left: usize, window: &[u8], ended: bool) -> bool
 {
     // 68 bytes show any record: its length need not be looked at.
     ended || (left <= window.len() || (68 <= window.len() || feed::shows(window)))
-}
-
-pub fn least(a: usize, b: usize) -> usize
-    ensures { λ r. ⌜ r ≡ min a b ⌝ }
-{
-    if a < b { a } else { b }
 }
 
 // One step: the record that stands first in the window, if the window shows all that can matter to it. A refusal and the feed's end leave early.
