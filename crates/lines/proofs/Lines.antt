@@ -11,7 +11,7 @@ use Rattle.lists.specs.Put.{put}
 use Rattle.lists.proofs.All.{All}
 use Rattle.lists.proofs.Put.{put-then}
 use Rattle.lines.specs.Decimal.{decimal}
-use Rattle.lines.specs.Line.{line}
+use Rattle.lines.specs.Line.{line, field}
 use Rattle.lines.proofs.Decimals.{decimal-few}
 
 length-field : (n b : ℕ) (rest : List ℕ) → length ((decimal n ++ (b ∷ [])) ++ rest) ≡ length (decimal n) + 1 + length rest
@@ -48,16 +48,13 @@ module _ (row : List ℕ) (i : ℕ) where
 pub length-two : (n m : ℕ) → length (line (n ∷ m ∷ [])) ≡ length (decimal n) + 1 + (length (decimal m) + 1)
 length-two n m = ap length (line-two n m) ∙ simp length-append (omega arith)
 
--- each number and the byte behind it take at most 11
-pub line-few : (row : List ℕ) → 0 < length row → All (λ (n : ℕ). n < 4294967296) row → length (line row) ≤ 11 * length row
+-- each number and the byte behind it take a field
+pub line-few : (row : List ℕ) → 0 < length row → All (λ (n : ℕ). n < 4294967296) row → length (line row) ≤ field * length row
 line-few [] some small = absurd (omega arith)
 line-few (n ∷ []) some small = rw line-one (simp length-append (omega (arith, decimal-few n 10 (omega arith) (lit< tt))))
 line-few (n ∷ m ∷ ns) some small =
     let rest = line-few (m ∷ ns) (omega arith) (small .1) in
     rw (line-more, length-field n 32 (line (m ∷ ns))) (omega (arith, decimal-few n 10 (omega arith) (lit< tt)))
-
-pub row-few : (row : List ℕ) → length row ≡ 8 → All (λ (n : ℕ). n < 4294967296) row → length (line row) ≤ 88
-row-few row e small = omega (arith, line-few row (omega arith) small)
 
 -- ---- put in field by field
 

@@ -6,8 +6,7 @@ use Rattle.unique.specs.Unique.{OneOutcome}
 use Rattle.unique.proofs.Equation.{outcome-by-equation, agree-both}
 use Rattle.lines.proofs.put_text.Reads as put-text
 use Rattle.lines.proofs.put_number.Reads as put-number
-use Rattle.lines.proofs.put_two.Reads as put-two
-use Rattle.lines.proofs.put_row.Reads as put-row
+use Rattle.lines.proofs.put_line.Reads as put-line
 
 one-put-text : OneOutcome {Seen = List ℕ} (λ κs nothing left. now (left .0)) put-text.Post
 one-put-text = outcome-by-equation _ _
@@ -15,8 +14,5 @@ one-put-text = outcome-by-equation _ _
 one-put-number : OneOutcome {Seen = ℕ × List ℕ} (λ κs place left. (place, now (left .0))) put-number.Post
 one-put-number κs args x y left other p q = agree-both p q
 
-one-put-two : OneOutcome {Seen = ℕ × List ℕ} (λ κs place left. (place, now (left .0))) put-two.Post
-one-put-two κs args x y left other p q = agree-both p q
-
-one-put-row : OneOutcome {Seen = ℕ × List ℕ} (λ κs place left. (place, now (left .0))) put-row.Post
-one-put-row κs args x y left other p q = agree-both (p .0, p .1 .0) (q .0, q .1 .0)
+one-put-line : OneOutcome {Seen = ℕ × List ℕ} (λ κs place left. (place, now (left .0))) put-line.Post
+one-put-line κs args x y left other p q = agree-both p q

@@ -7,6 +7,9 @@ ghost use Rattle.lists.specs.Put.{put};
 ghost use Rattle.lines.specs.Decimal.{decimal};
 ghost use Rattle.lines.specs.Line.{line};
 
+// The bytes of a field, at most: the 10 digits of a number of 32 bits, and the byte behind it.
+pub const FIELD: usize = 11;
+
 // Some text into a buffer from a place on.
 pub fn put_text(out: &mut [u8], at: usize, text: &[u8])
     requires { ⌜ at + length (now text) ≤ length (now out) ⌝ }
@@ -53,28 +56,18 @@ pub fn put_number(out: &mut [u8], at: usize, n: u64, after: u8) -> usize
     end + 1
 }
 
-// Two numbers in a line from a place on; answers the place behind it.
-pub fn put_two(out: &mut [u8], at: usize, n: u64, m: u64) -> usize
-    requires { ⌜ at + length (line (n ∷ m ∷ [])) ≤ length (now out) ⌝ }
-    ensures { λ r. ⌜ r ≡ at + length (line (n ∷ m ∷ [])) ⌝ }
-    ensures { λ _. ⌜ now (out .exit) ≡ put at (line (n ∷ m ∷ [])) (now (out .entry)) ⌝ }
+// Numbers in a line from a place on, one at least; answers the place behind it.
+pub fn put_line(out: &mut [u8], at: usize, numbers: &[u64]) -> usize
+    requires { ⌜ (0 < length (now numbers)) × (at + length (line (now numbers)) ≤ length (now out)) ⌝ }
+    ensures { λ r. ⌜ r ≡ at + length (line (now (numbers .entry))) ⌝ }
+    ensures { λ _. ⌜ now (out .exit) ≡ put at (line (now (numbers .entry))) (now (out .entry)) ⌝ }
 {
-    let next = put_number(out, at, n, b' ');
-    put_number(out, next, m, b'\n')
-}
-
-// Eight numbers in a line from a place on; answers the place behind it.
-pub fn put_row(out: &mut [u8], at: usize, row: [u32; 8]) -> usize
-    requires { ⌜ at + 88 ≤ length (now out) ⌝ }
-    ensures { λ r. ⌜ r ≡ at + length (line row) ⌝ }
-    ensures { λ _. ⌜ now (out .exit) ≡ put at (line row) (now (out .entry)) ⌝ }
-    ensures { λ r. ⌜ r ≤ at + 88 ⌝ }
-{
+    let last = numbers.len() - 1;
     let mut next = at;
     let mut i = 0;
-    while i < 7 {
-        next = put_number(out, next, row[i] as u64, b' ');
+    while i < last {
+        next = put_number(out, next, numbers[i], b' ');
         i += 1;
     }
-    put_number(out, next, row[7] as u64, b'\n')
+    put_number(out, next, numbers[last], b'\n')
 }

@@ -6,9 +6,11 @@ use lib.Dec.{leb}
 use lib.ListN.{length, take}
 use Rattle.lists.specs.Put.{put}
 use Rattle.lists.specs.Store.{Rows}
+use Rattle.queue.specs.Queue as queue
 use Rattle.join.specs.declared.Join.{Join}
 use Rattle.join.specs.State.{Sound, stateWith}
 use Rattle.feed.specs.Reading.{reading, shows}
+use Rattle.lines.specs.Line.{field}
 use Rattle.steps.specs.declared.Counts.{Counts}
 use Rattle.steps.specs.declared.Stepped.{Stepped}
 use Rattle.steps.specs.declared.Went.{Went}
@@ -56,8 +58,12 @@ effectWith step inA inB rows out =
 pub record Kept (p : Progress) (left : ℕ) : Type 0 where
   pub sound : Sound (p .state)
   pub few-records : 4 * p .records + left ≤ readLimit
-  pub few-pairs : p .pairs ≤ 256 * p .records
+  pub few-pairs : p .pairs ≤ queue.places * p .records
 
--- as many bytes as the lines of 256 pairs may have
+-- as many bytes as the line of a pair may have: a field takes 11, a number of 32 bits has 10 digits
+abbrev pub lineRoom : ℕ
+lineRoom = 8 * field
+
+-- and the lines of all pairs that may wait
 abbrev pub room : ℕ
-room = 22528
+room = queue.places * lineRoom

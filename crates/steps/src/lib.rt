@@ -6,6 +6,8 @@ use join::Called;
 use join::Join;
 use join::side_of;
 use journal::Answer;
+use lines::FIELD;
+use queue::Queue;
 ghost use mathlib.Core.Path.{_≡_};
 ghost use mathlib.Core.Bool.{true};
 ghost use mathlib.Core.List.{[], _∷_, _++_, flatMap};
@@ -21,13 +23,16 @@ ghost use Rattle.join.specs.Calls.{outcome, readyOf};
 ghost use Rattle.feed.specs.Record.{streamKnown};
 ghost use Rattle.lines.specs.Line.{line};
 ghost use Rattle.steps.specs.Printed.{refusedWord, pairLines, endLine, heard, onward, answered};
-ghost use Rattle.steps.specs.Step.{effectWith, effectOf, tells, stepped, progressWith, Kept, room};
+ghost use Rattle.steps.specs.Step.{effectWith, effectOf, tells, stepped, progressWith, Kept, lineRoom, room};
 
 // How many bytes of a feed are read.
 pub const READ_LIMIT: u32 = 4294967295;
 
-// How many bytes a step may put out: the lines of 256 pairs.
-pub const ROOM: usize = 22528;
+// How many bytes the line of a pair may have.
+const LINE: usize = 8 * FIELD;
+
+// How many bytes a step may put out: the lines of all pairs that may wait.
+pub const ROOM: usize = Queue::PLACES * LINE;
 
 // How many records were accepted, and how many pair lines put out.
 pub struct Counts {
@@ -84,30 +89,43 @@ fn hear(
     }
 }
 
+// The numbers of a pair, as wide as a line takes them.
+fn numbers_in(row: [u32; 8]) -> [u64; 8]
+    ensures { λ r. ⌜ (r ≡ row) × (length row ≡ 8) × (length (line row) ≤ lineRoom) ⌝ }
+{
+    let mut numbers = [0u64; 8];
+    let mut i = 0;
+    while i < 8 {
+        numbers[i] = row[i] as u64;
+        i += 1;
+    }
+    numbers
+}
+
 // The lines of the first k waiting pairs, from the buffer's first byte on; answers how many bytes they have.
 fn put_pairs(out: &mut [u8], rows: &queue::Places, k: usize) -> usize
-    requires { ⌜ (k ≤ the_queue.places) × (length (now rows) ≡ the_queue.places) × (88 * k ≤ length (now out)) ⌝ }
+    requires { ⌜ (k ≤ the_queue.places) × (length (now rows) ≡ the_queue.places) × (lineRoom * k ≤ length (now out)) ⌝ }
     ensures { λ r. ⌜ r ≡ length (flatMap line (take k (now (rows .entry)))) ⌝ }
     ensures { λ _. ⌜ now (out .exit) ≡ put 0 (flatMap line (take k (now (rows .entry)))) (now (out .entry)) ⌝ }
 {
     let mut at = 0;
     let mut i = 0;
     while i < k {
-        let row = rows[i];
-        at = lines::put_row(out, at, row);
+        let numbers = numbers_in(rows[i]);
+        at = lines::put_line(out, at, &numbers);
         i += 1;
     }
     at
 }
 
-// A last line, from the buffer's first byte on: a word and two numbers. Answers how many bytes it has.
-fn put_last(out: &mut [u8], word: &[u8], n: u64, m: u64) -> usize
-    requires { ⌜ length (now word) + length (line (n ∷ m ∷ [])) ≤ length (now out) ⌝ }
-    ensures { λ r. ⌜ r ≡ length (now (word .entry) ++ line (n ∷ m ∷ [])) ⌝ }
-    ensures { λ _. ⌜ now (out .exit) ≡ put 0 (now (word .entry) ++ line (n ∷ m ∷ [])) (now (out .entry)) ⌝ }
+// A last line, from the buffer's first byte on: a word and numbers. Answers how many bytes it has.
+fn put_last(out: &mut [u8], word: &[u8], numbers: &[u64]) -> usize
+    requires { ⌜ (0 < length (now numbers)) × (length (now word) + length (line (now numbers)) ≤ length (now out)) ⌝ }
+    ensures { λ r. ⌜ r ≡ length (now (word .entry) ++ line (now (numbers .entry))) ⌝ }
+    ensures { λ _. ⌜ now (out .exit) ≡ put 0 (now (word .entry) ++ line (now (numbers .entry))) (now (out .entry)) ⌝ }
 {
     lines::put_text(out, 0, word);
-    lines::put_two(out, word.len(), n, m)
+    lines::put_line(out, word.len(), numbers)
 }
 
 // The last line of a feed that is refused.
@@ -116,7 +134,7 @@ fn put_refused(out: &mut [u8], number: u32, records: u32) -> usize
     ensures { λ r. ⌜ r ≡ length (refusedWord ++ line (number ∷ records ∷ [])) ⌝ }
     ensures { λ _. ⌜ now (out .exit) ≡ put 0 (refusedWord ++ line (number ∷ records ∷ [])) (now (out .entry)) ⌝ }
 {
-    put_last(out, b"refused ", number as u64, records as u64)
+    put_last(out, b"refused ", &[number as u64, records as u64])
 }
 
 // The last line of a feed that ends.
@@ -131,9 +149,9 @@ fn put_end(out: &mut [u8], join: Join, counts: Counts) -> usize
     let gate_b = journal_b.gate;
     let records = counts.records as u64;
     if gate_a.closed() && gate_b.closed() {
-        return put_last(out, b"done ", records, counts.pairs);
+        return put_last(out, b"done ", &[records, counts.pairs]);
     }
-    put_last(out, b"open ", records, counts.pairs)
+    put_last(out, b"open ", &[records, counts.pairs])
 }
 
 // The ready pairs put out, and dropped at once.

@@ -30,36 +30,42 @@ closed-requires-2 c κs = search needs
 slice-aggregate-put-last : tie.Need-slice-aggregate-put-last
 slice-aggregate-put-last c = search needs
 
+slice-aggregate-put-last-2 : tie.Need-slice-aggregate-put-last-2
+slice-aggregate-put-last-2 c = search needs
+
 put-last-requires : tie.Need-put-last-requires
 put-last-requires c κs =
-    let counts = c .before .before .before .before .before .before .before .before .before .before .args .counts in
-    omega (arith, last-few (counts .records) (counts .pairs) (omega arith) (omega arith))
+    let counts = c .before .before .before .before .before .before .before .before .before .before .before .args .counts in
+    (omega arith, omega (arith, last-few (counts .records) (counts .pairs) (omega arith) (omega arith)))
 
 same-length : tie.Need-same-length
 same-length c = search needs
 
 returns : tie.Need-returns
 returns c =
-    let a = c .before .before .before .before .before .before .before .before .before .before .before .before .before .args in
+    let a = c .before .before .before .before .before .before .before .before .before .before .before .before .before .before .args in
     let e : (inA inB rows : Rows) → endLine (progressWith (a .join) inA inB rows (a .counts)) ≡ doneWord ++ line (a .counts .records ∷ a .counts .pairs ∷ []) =
-    λ inA inB rows. end-done (progressWith (a .join) inA inB rows (a .counts)) (sym (c .before .before .before .before .before .before .before .before .closed .ensures) ∙ c .before .before .before .before .before .before .before .if1 .taken) (sym (c .before .before .before .before .before .before .closed2 .ensures) ∙ c .before .before .before .before .before .if2 .taken) in
+    λ inA inB rows. end-done (progressWith (a .join) inA inB rows (a .counts)) (sym (c .before .before .before .before .before .before .before .before .before .closed .ensures) ∙ c .before .before .before .before .before .before .before .before .if1 .taken) (sym (c .before .before .before .before .before .before .before .closed2 .ensures) ∙ c .before .before .before .before .before .before .if2 .taken) in
     (λ inA inB rows. c .before .before .put-last .ensures .0 ∙ ap length (sym (e inA inB rows)), λ inA inB rows. c .before .before .put-last .ensures .1 ∙ ap (λ (l : List ℕ). put 0 l (now (a .out))) (sym (e inA inB rows)))
 
-slice-aggregate-put-last-2 : tie.Need-slice-aggregate-put-last-2
-slice-aggregate-put-last-2 c = search needs
+slice-aggregate-put-last-3 : tie.Need-slice-aggregate-put-last-3
+slice-aggregate-put-last-3 c = search needs
+
+slice-aggregate-put-last-4 : tie.Need-slice-aggregate-put-last-4
+slice-aggregate-put-last-4 c = search needs
 
 put-last-requires-2 : tie.Need-put-last-requires-2
 put-last-requires-2 c κs =
-    let counts = c .before .before .before .before .before .before .before .before .args .counts in
-    omega (arith, last-few (counts .records) (counts .pairs) (omega arith) (omega arith))
+    let counts = c .before .before .before .before .before .before .before .before .before .args .counts in
+    (omega arith, omega (arith, last-few (counts .records) (counts .pairs) (omega arith) (omega arith)))
 
 same-length-2 : tie.Need-same-length-2
 same-length-2 c = search needs
 
 returns-2 : tie.Need-returns-2
 returns-2 c =
-    let a = c .before .before .before .before .before .before .before .before .before .before .before .args in
-    let one-open : isClosed (a .join .a .journal .gate) && isClosed (a .join .b .journal .gate) ≡ false = ⊎-elim (λ w. rw (sym (w .1 .ensures) ∙ w .2 .left) (and-false (isClosed (a .join .a .journal .gate)))) (λ w. rw (sym (c .before .before .before .before .before .before .closed .ensures) ∙ w .left)) (c .before .before .before .before .before .if1 .came) in
+    let a = c .before .before .before .before .before .before .before .before .before .before .before .before .args in
+    let one-open : isClosed (a .join .a .journal .gate) && isClosed (a .join .b .journal .gate) ≡ false = ⊎-elim (λ w. rw (sym (w .1 .ensures) ∙ w .2 .left) (and-false (isClosed (a .join .a .journal .gate)))) (λ w. rw (sym (c .before .before .before .before .before .before .before .closed .ensures) ∙ w .left)) (c .before .before .before .before .before .before .if1 .came) in
     let e : (inA inB rows : Rows) → endLine (progressWith (a .join) inA inB rows (a .counts)) ≡ openWord ++ line (a .counts .records ∷ a .counts .pairs ∷ []) =
     λ inA inB rows. end-open (progressWith (a .join) inA inB rows (a .counts)) one-open in
     (λ inA inB rows. c .before .before .put-last2 .ensures .0 ∙ ap length (sym (e inA inB rows)), λ inA inB rows. c .before .before .put-last2 .ensures .1 ∙ ap (λ (l : List ℕ). put 0 l (now (a .out))) (sym (e inA inB rows)))
@@ -72,10 +78,12 @@ put-end-spec =
     closed-requires
     closed-requires-2
     slice-aggregate-put-last
+    slice-aggregate-put-last-2
     put-last-requires
     same-length
     returns
-    slice-aggregate-put-last-2
+    slice-aggregate-put-last-3
+    slice-aggregate-put-last-4
     put-last-requires-2
     same-length-2
     returns-2)

@@ -2,12 +2,13 @@
 use Prim.Native.Nat.{_+_, _-_, _*_, _≤_}
 use native.Mathlib.Omega.{arith}
 use mathlib.Core.List.{[], flatMap}
-use mathlib.Core.Path.{_≡_, refl, sym}
+use mathlib.Core.Path.{_≡_, refl, sym, ap, _∙_}
 use denote.Ref.{now}
 use lib.ListN.{length, take, getD}
 use Rattle.lists.specs.Put.{put}
 use Rattle.lists.proofs.Put.{put-none}
 use Rattle.lines.specs.Line.{line}
+use Rattle.steps.specs.Step.{lineRoom}
 use Rattle.steps.proofs.Lines.{length-lines-more, put-line-more}
 use Rattle.steps.proofs.put_pairs.Statement.{statement}
 use Rattle.steps.proofs.put_pairs.Tie as tie
@@ -15,7 +16,7 @@ use Rattle.steps.proofs.put_pairs.Tie as tie
 abbrev Inv-loop : tie.InvT-loop
 Inv-loop out₀ rows k at₀ i₀ out at i =
     (i ≤ k)
-    × (at ≤ 88 * i)
+    × (at ≤ lineRoom * i)
     × (at ≡ length (flatMap line (take i rows)))
     × (out ≡ put 0 (flatMap line (take i rows)) out₀)
     × (length out ≡ length out₀)
@@ -27,14 +28,26 @@ loop-holds : tie.Need-loop-holds Inv-loop μ-loop
 unfolding flatMap
 loop-holds c = (omega arith, omega arith, refl, sym (put-none 0 (now (c .before .args .out))), refl)
 
-mul-row : tie.Need-mul-row Inv-loop μ-loop
-mul-row c = omega arith
+mul-numbers-in : tie.Need-mul-numbers-in Inv-loop μ-loop
+mul-numbers-in c = omega arith
 
-element-copy-out-row : tie.Need-element-copy-out-row Inv-loop μ-loop
-element-copy-out-row c = omega arith
+element-copy-out-numbers-in : tie.Need-element-copy-out-numbers-in Inv-loop μ-loop
+element-copy-out-numbers-in c = omega arith
 
-put-row-requires : tie.Need-put-row-requires Inv-loop μ-loop
-put-row-requires c κs = omega arith
+numbers-in-requires : tie.Need-numbers-in-requires Inv-loop μ-loop
+numbers-in-requires c κs = tt
+
+slice-aggregate-put-line : tie.Need-slice-aggregate-put-line Inv-loop μ-loop
+slice-aggregate-put-line c =
+    let n = c .before .before .numbers-in .ensures in
+    sym (ap length (n .0) ∙ n .1)
+
+put-line-requires : tie.Need-put-line-requires Inv-loop μ-loop
+put-line-requires c κs =
+    let n = c .before .before .numbers-in .ensures in
+    let same = ap line (n .0) in
+    let wide = ap length (n .0) in
+    (omega (arith, wide, n .1), omega (arith, ap length same, n .2))
 
 add-i : tie.Need-add-i Inv-loop μ-loop
 add-i c = omega arith
@@ -44,17 +57,19 @@ loop-less c = omega arith
 
 loop-again : tie.Need-loop-again Inv-loop μ-loop
 loop-again c =
-    let st = c .before .before .before .before .before .before .before .before in
-    let at-loop = c .before .before .before .before .before .before .loop in
+    let st = c .before .before .before .before .before .before .before .before .before .before in
+    let at-loop = c .before .before .before .before .before .before .before .before .loop in
+    let n = c .before .before .before .before .before .numbers-in .ensures in
     let rows = now (st .args .rows) in
     let i = at-loop .i in
-    let placed = c .before .before .put-row .ensures in
-    let behind : c .before .before .put-row .result ≡ at-loop .at + length (line (getD rows i [])) = placed .0 in
+    let placed = c .before .before .put-line .ensures in
+    let same : line (c .before .before .before .before .before .numbers-in .result) ≡ line (getD rows i []) = ap line (n .0) in
+    let behind : c .before .before .put-line .result ≡ at-loop .at + length (line (getD rows i [])) = rw same at (placed .0) in
     let more = length-lines-more rows i [] (omega arith) in (
       omega arith,
+      omega (arith, n .2),
       omega arith,
-      omega arith,
-      put-line-more rows i [] (omega arith) (at-loop .at) (now (st .args .out)) (at-loop .inv .2) (at-loop .inv .3) (placed .1 .0) (omega arith),
+      put-line-more rows i [] (omega arith) (at-loop .at) (now (st .args .out)) (at-loop .inv .2) (at-loop .inv .3) (rw same at (placed .1)) (omega (arith, n .2)),
       omega arith,
     )
 
@@ -73,9 +88,11 @@ put-pairs-spec =
     Inv-loop
     μ-loop
     loop-holds
-    mul-row
-    element-copy-out-row
-    put-row-requires
+    mul-numbers-in
+    element-copy-out-numbers-in
+    numbers-in-requires
+    slice-aggregate-put-line
+    put-line-requires
     add-i
     loop-less
     loop-again
