@@ -48,10 +48,16 @@ pub fn put_number(out: &mut [u8], at: usize, n: u64, after: u8) -> usize
     out[end] = after;
     let mut i = end;
     let mut rest = n;
-    while at < i {
-        i -= 1;
-        out[i] = 48 + (rest % 10) as u8;
-        rest /= 10;
+    // Two digits a division, as dividing is the dear part; then the first, if it is left.
+    while at + 1 < i {
+        let two = rest % 100;
+        out[i - 1] = 48 + (two % 10) as u8;
+        out[i - 2] = 48 + (two / 10) as u8;
+        i -= 2;
+        rest /= 100;
+    }
+    if at < i {
+        out[at] = 48 + (rest % 10) as u8;
     }
     end + 1
 }

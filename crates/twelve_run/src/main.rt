@@ -7,10 +7,98 @@ use libc::STDOUT_FILENO;
 use pairing::Entry;
 use pairing::Pair;
 use pairing::Rule;
+ghost use Prim.Native.Nat.{_<_};
 
-const A: u16 = 0;
+const A: u32 = 0;
 
-const B: u16 = 1;
+const B: u32 = 1;
+
+// What a line of the table says, and what its other numbers are.
+// An example begins: its number, and the width of its rule, which is near keys; 0 is equal keys.
+const EXAMPLE: u32 = 0;
+// An entry: stream, start, end and key.
+const ENTRY: u32 = 1;
+// The same entry so many times: stream, start, end, key and how many.
+const ENTRIES: u32 = 2;
+// A mark: stream and time.
+const MARK: u32 = 3;
+// A close: stream.
+const CLOSE: u32 = 4;
+
+const TAKE: u32 = 5;
+// How many pairs wait.
+const WAITING: u32 = 6;
+// The pair in a place of the queue: which.
+const PAIR: u32 = 7;
+// How many entries area A holds.
+const AREA: u32 = 8;
+
+const LINES: usize = 62;
+
+const TABLE: [[u32; 6]; LINES] = [
+    [EXAMPLE, 1, 0, 0, 0, 0],
+    [ENTRY, A, 10, 20, 1, 0],
+    [ENTRY, B, 20, 30, 1, 0],
+    [WAITING, 0, 0, 0, 0, 0],
+    [EXAMPLE, 2, 0, 0, 0, 0],
+    [ENTRY, A, 10, 21, 1, 0],
+    [ENTRY, B, 20, 30, 1, 0],
+    [WAITING, 0, 0, 0, 0, 0],
+    [PAIR, 0, 0, 0, 0, 0],
+    [EXAMPLE, 3, 0, 0, 0, 0],
+    [ENTRY, A, 5, 6, 1, 0],
+    [MARK, B, 6, 0, 0, 0],
+    [AREA, 0, 0, 0, 0, 0],
+    [EXAMPLE, 4, 0, 0, 0, 0],
+    [ENTRY, B, 2, 20, 1, 0],
+    [MARK, B, 10, 0, 0, 0],
+    [ENTRY, A, 3, 5, 1, 0],
+    [WAITING, 0, 0, 0, 0, 0],
+    [PAIR, 0, 0, 0, 0, 0],
+    [TAKE, 0, 0, 0, 0, 0],
+    [AREA, 0, 0, 0, 0, 0],
+    [MARK, A, 4, 0, 0, 0],
+    [TAKE, 0, 0, 0, 0, 0],
+    [EXAMPLE, 5, 0, 0, 0, 0],
+    [ENTRY, A, 1, 4, 1, 0],
+    [ENTRY, A, 1, 4, 1, 0],
+    [ENTRY, B, 2, 3, 1, 0],
+    [WAITING, 0, 0, 0, 0, 0],
+    [PAIR, 0, 0, 0, 0, 0],
+    [PAIR, 1, 0, 0, 0, 0],
+    [EXAMPLE, 6, 0, 0, 0, 0],
+    [ENTRY, A, 7, 7, 1, 0],
+    [EXAMPLE, 7, 0, 0, 0, 0],
+    [ENTRY, A, 4294967294, 4294967295, 1, 0],
+    [EXAMPLE, 8, 0, 0, 0, 0],
+    [MARK, A, 10, 0, 0, 0],
+    [ENTRY, A, 9, 12, 1, 0],
+    [ENTRY, A, 10, 12, 1, 0],
+    [EXAMPLE, 9, 0, 0, 0, 0],
+    [ENTRIES, A, 0, 9, 1, 64],
+    [ENTRY, A, 0, 9, 1, 0],
+    [MARK, B, 9, 0, 0, 0],
+    [ENTRY, A, 0, 10, 1, 0],
+    [EXAMPLE, 10, 0, 0, 0, 0],
+    [ENTRIES, A, 0, 100, 1, 64],
+    [ENTRIES, B, 0, 100, 1, 4],
+    [WAITING, 0, 0, 0, 0, 0],
+    [TAKE, 0, 0, 0, 0, 0],
+    [ENTRY, B, 0, 100, 1, 0],
+    [EXAMPLE, 11, 2, 0, 0, 0],
+    [ENTRY, A, 10, 20, 5, 0],
+    [ENTRY, B, 10, 20, 7, 0],
+    [WAITING, 0, 0, 0, 0, 0],
+    [EXAMPLE, 11, 2, 0, 0, 0],
+    [ENTRY, A, 10, 20, 5, 0],
+    [ENTRY, B, 10, 20, 8, 0],
+    [WAITING, 0, 0, 0, 0, 0],
+    [EXAMPLE, 12, 0, 0, 0, 0],
+    [TAKE, 0, 0, 0, 0, 0],
+    [CLOSE, A, 0, 0, 0, 0],
+    [CLOSE, B, 0, 0, 0, 0],
+    [TAKE, 0, 0, 0, 0, 0],
+];
 
 fn print(text: &[u8]) {
     io::write_all(STDOUT_FILENO, text);
@@ -20,12 +108,9 @@ fn print_number(n: u32) {
     io::print_decimal(STDOUT_FILENO, n as u64);
 }
 
-fn print_stream(stream: u16) {
-    if stream == A {
-        print(b"A");
-    } else {
-        print(b"B");
-    }
+fn print_count(n: usize) {
+    io::print_decimal(STDOUT_FILENO, n as u64);
+    print(b".");
 }
 
 fn print_interval(x: Interval) {
@@ -36,28 +121,31 @@ fn print_interval(x: Interval) {
     print(b")");
 }
 
-fn print_key(key: u32) {
-    if key != 1 {
-        print(b" key ");
-        print_number(key);
+fn print_stream(stream: u16) {
+    if stream == 0 {
+        print(b" A");
+    } else {
+        print(b" B");
     }
 }
 
 fn print_entry(stream: u16, e: Entry) {
-    let span = e.span;
     print_stream(stream);
     print(b" ");
-    print_interval(span);
-    print_key(e.key);
+    print_interval(e.span);
+    if e.key != 1 {
+        print(b" key ");
+        print_number(e.key);
+    }
 }
 
 fn print_pair(p: Pair) {
-    let meeting = p.meeting;
-    print_interval(meeting);
+    print_interval(p.meeting);
     print(b" ");
     print_number(p.a.ordinal);
     print(b"-");
     print_number(p.b.ordinal);
+    print(b".");
 }
 
 fn print_answer(answer: Answer) {
@@ -72,36 +160,51 @@ fn print_answer(answer: Answer) {
 fn print_took(took: Took) {
     match took {
         Took::Handed(p) => print_pair(p),
-        Took::Waiting => print(b"Waiting"),
-        Took::Finished => print(b"Finished"),
+        Took::Waiting => print(b"Waiting."),
+        Took::Finished => print(b"Finished."),
         Took::Refused(number) => print_number(number),
     }
 }
 
-fn print_waiting(join: Join) {
-    print(b" Waiting: ");
-    io::print_decimal(STDOUT_FILENO, join.queue.count as u64);
+// The number of an example, and its rule.
+fn print_example(number: u32, width: u32) {
+    print_number(number);
     print(b".");
+    if 0 < width {
+        print(b" Near, width ");
+        print_number(width);
+        print(b".");
+    }
 }
 
-fn print_area_a(join: Join) {
-    print(b" Area A: ");
-    io::print_decimal(STDOUT_FILENO, join.a.area.count as u64);
-    print(b".");
+fn rule_of(width: u32) -> Rule {
+    if width == 0 {
+        Rule::Equal
+    } else {
+        Rule::Near(width)
+    }
 }
 
-// The pair that a place of the queue holds.
-fn print_place(row: [u32; 8]) {
-    print(b" Pair ");
-    print_pair(queue::pair_in(row));
-    print(b".");
+// A is stream 0, B is stream 1.
+fn stream_of(n: u32) -> u16 {
+    if n == A { 0 } else { 1 }
 }
 
-fn entry_of(start: u32, end: u32, key: u32) -> Entry {
-    let span = Interval { start, end };
+// One of the first two places of the queue.
+fn place_of(n: u32) -> usize
+    ensures { λ r. ⌜ r < 2 ⌝ }
+{
+    if n == 0 { 0 } else { 1 }
+}
+
+fn entry_of(line: [u32; 6]) -> Entry {
+    let span = Interval {
+        start: line[2],
+        end: line[3],
+    };
     Entry {
         span,
-        key,
+        key: line[4],
         value: 0,
     }
 }
@@ -114,67 +217,10 @@ fn enter(
     stream: u16,
     e: Entry,
 ) -> Join {
-    print(b" ");
     print_entry(stream, e);
     let called = join.entry(a, b, rows, stream, e);
     let answer = called.answer;
     print_answer(answer);
-    called.join
-}
-
-fn mark(
-    join: Join,
-    a: &mut area::Places,
-    b: &mut area::Places,
-    rows: &queue::Places,
-    stream: u16,
-    time: u32,
-) -> Join {
-    print(b" ");
-    print_stream(stream);
-    print(b" mark ");
-    print_number(time);
-    let called = join.mark(a, b, rows, stream, time);
-    let answer = called.answer;
-    print_answer(answer);
-    called.join
-}
-
-fn close(
-    join: Join,
-    a: &mut area::Places,
-    b: &mut area::Places,
-    rows: &queue::Places,
-    stream: u16,
-) -> Join {
-    print(b" ");
-    print_stream(stream);
-    print(b" close");
-    let called = join.close(a, b, rows, stream);
-    let answer = called.answer;
-    print_answer(answer);
-    called.join
-}
-
-fn take(join: Join, a: &area::Places, b: &area::Places, rows: &mut queue::Places) -> Join {
-    print(b" Take: ");
-    let taken = join.take(a, b, rows);
-    let answer = taken.answer;
-    print_took(answer);
-    print(b".");
-    taken.join
-}
-
-// An entry whose answer is not printed.
-fn enter_unseen(
-    join: Join,
-    a: &mut area::Places,
-    b: &mut area::Places,
-    rows: &mut queue::Places,
-    stream: u16,
-    e: Entry,
-) -> Join {
-    let called = join.entry(a, b, rows, stream, e);
     called.join
 }
 
@@ -191,14 +237,15 @@ fn enter_times(
     let mut after = join;
     let mut i = 0;
     while i < times {
-        after = enter_unseen(after, a, b, rows, stream, e);
+        let called = after.entry(a, b, rows, stream, e);
+        after = called.join;
         i += 1;
     }
     after
 }
 
 fn accepted(join: Join, stream: u16) -> u32 {
-    if stream == A {
+    if stream == 0 {
         join.a.journal.accepted
     } else {
         join.b.journal.accepted
@@ -217,7 +264,7 @@ fn enter_many(
 ) -> Join {
     print(b" ");
     print_number(times);
-    print(b" times ");
+    print(b" times");
     print_entry(stream, e);
     let after = enter_times(join, a, b, rows, stream, e, times);
     print(b": ");
@@ -226,176 +273,107 @@ fn enter_many(
     after
 }
 
-fn example_1() {
-    let mut a = area::no_places();
-    let mut b = area::no_places();
-    let mut rows = queue::no_places();
-    let fresh = Join::fresh(Rule::Equal);
-    print(b"1.");
-    let one = enter(fresh, &mut a, &mut b, &mut rows, A, entry_of(10, 20, 1));
-    let two = enter(one, &mut a, &mut b, &mut rows, B, entry_of(20, 30, 1));
-    print_waiting(two);
-    print(b"\n");
+fn mark(
+    join: Join,
+    a: &mut area::Places,
+    b: &mut area::Places,
+    rows: &queue::Places,
+    stream: u16,
+    time: u32,
+) -> Join {
+    print_stream(stream);
+    print(b" mark ");
+    print_number(time);
+    let called = join.mark(a, b, rows, stream, time);
+    let answer = called.answer;
+    print_answer(answer);
+    called.join
 }
 
-fn example_2() {
-    let mut a = area::no_places();
-    let mut b = area::no_places();
-    let mut rows = queue::no_places();
-    let fresh = Join::fresh(Rule::Equal);
-    print(b"2.");
-    let one = enter(fresh, &mut a, &mut b, &mut rows, A, entry_of(10, 21, 1));
-    let two = enter(one, &mut a, &mut b, &mut rows, B, entry_of(20, 30, 1));
-    print_waiting(two);
-    print_place(rows[0]);
-    print(b"\n");
+fn close(
+    join: Join,
+    a: &mut area::Places,
+    b: &mut area::Places,
+    rows: &queue::Places,
+    stream: u16,
+) -> Join {
+    print_stream(stream);
+    print(b" close");
+    let called = join.close(a, b, rows, stream);
+    let answer = called.answer;
+    print_answer(answer);
+    called.join
 }
 
-fn example_3() {
-    let mut a = area::no_places();
-    let mut b = area::no_places();
-    let mut rows = queue::no_places();
-    let fresh = Join::fresh(Rule::Equal);
-    print(b"3.");
-    let one = enter(fresh, &mut a, &mut b, &mut rows, A, entry_of(5, 6, 1));
-    let two = mark(one, &mut a, &mut b, &rows, B, 6);
-    print_area_a(two);
-    print(b"\n");
+fn take(join: Join, a: &area::Places, b: &area::Places, rows: &mut queue::Places) -> Join {
+    print(b" Take: ");
+    let taken = join.take(a, b, rows);
+    let answer = taken.answer;
+    print_took(answer);
+    taken.join
 }
 
-fn example_4() {
-    let mut a = area::no_places();
-    let mut b = area::no_places();
-    let mut rows = queue::no_places();
-    let fresh = Join::fresh(Rule::Equal);
-    print(b"4.");
-    let one = enter(fresh, &mut a, &mut b, &mut rows, B, entry_of(2, 20, 1));
-    let two = mark(one, &mut a, &mut b, &rows, B, 10);
-    let three = enter(two, &mut a, &mut b, &mut rows, A, entry_of(3, 5, 1));
-    print_waiting(three);
-    print_place(rows[0]);
-    let four = take(three, &a, &b, &mut rows);
-    print_area_a(four);
-    let five = mark(four, &mut a, &mut b, &rows, A, 4);
-    take(five, &a, &b, &mut rows);
-    print(b"\n");
+// What waits, and what is held.
+fn show(join: Join, rows: &queue::Places, line: [u32; 6]) {
+    match line[0] {
+        WAITING => {
+            print(b" Waiting: ");
+            print_count(join.queue.count);
+        }
+        PAIR => {
+            print(b" Pair ");
+            print_pair(queue::pair_in(rows[place_of(line[1])]));
+        }
+        _ => {
+            print(b" Area A: ");
+            print_count(join.a.area.count);
+        }
+    }
 }
 
-fn example_5() {
-    let mut a = area::no_places();
-    let mut b = area::no_places();
-    let mut rows = queue::no_places();
-    let fresh = Join::fresh(Rule::Equal);
-    print(b"5.");
-    let one = enter(fresh, &mut a, &mut b, &mut rows, A, entry_of(1, 4, 1));
-    let two = enter(one, &mut a, &mut b, &mut rows, A, entry_of(1, 4, 1));
-    let three = enter(two, &mut a, &mut b, &mut rows, B, entry_of(2, 3, 1));
-    print_waiting(three);
-    print_place(rows[0]);
-    print_place(rows[1]);
-    print(b"\n");
-}
-
-fn example_6() {
-    let mut a = area::no_places();
-    let mut b = area::no_places();
-    let mut rows = queue::no_places();
-    let fresh = Join::fresh(Rule::Equal);
-    print(b"6.");
-    enter(fresh, &mut a, &mut b, &mut rows, A, entry_of(7, 7, 1));
-    print(b"\n");
-}
-
-fn example_7() {
-    let mut a = area::no_places();
-    let mut b = area::no_places();
-    let mut rows = queue::no_places();
-    let fresh = Join::fresh(Rule::Equal);
-    print(b"7.");
-    let e = entry_of(4294967294, 4294967295, 1);
-    enter(fresh, &mut a, &mut b, &mut rows, A, e);
-    print(b"\n");
-}
-
-fn example_8() {
-    let mut a = area::no_places();
-    let mut b = area::no_places();
-    let mut rows = queue::no_places();
-    let fresh = Join::fresh(Rule::Equal);
-    print(b"8.");
-    let one = mark(fresh, &mut a, &mut b, &rows, A, 10);
-    let two = enter(one, &mut a, &mut b, &mut rows, A, entry_of(9, 12, 1));
-    enter(two, &mut a, &mut b, &mut rows, A, entry_of(10, 12, 1));
-    print(b"\n");
-}
-
-fn example_9() {
-    let mut a = area::no_places();
-    let mut b = area::no_places();
-    let mut rows = queue::no_places();
-    let fresh = Join::fresh(Rule::Equal);
-    print(b"9.");
-    let e = entry_of(0, 9, 1);
-    let one = enter_many(fresh, &mut a, &mut b, &mut rows, A, e, 64);
-    let two = enter(one, &mut a, &mut b, &mut rows, A, e);
-    let three = mark(two, &mut a, &mut b, &rows, B, 9);
-    enter(three, &mut a, &mut b, &mut rows, A, entry_of(0, 10, 1));
-    print(b"\n");
-}
-
-fn example_10() {
-    let mut a = area::no_places();
-    let mut b = area::no_places();
-    let mut rows = queue::no_places();
-    let fresh = Join::fresh(Rule::Equal);
-    print(b"10.");
-    let e = entry_of(0, 100, 1);
-    let one = enter_many(fresh, &mut a, &mut b, &mut rows, A, e, 64);
-    let two = enter_many(one, &mut a, &mut b, &mut rows, B, e, 4);
-    print_waiting(two);
-    let three = take(two, &a, &b, &mut rows);
-    enter(three, &mut a, &mut b, &mut rows, B, e);
-    print(b"\n");
-}
-
-// Once for each key of the B entry.
-fn example_11(key: u32) {
-    let mut a = area::no_places();
-    let mut b = area::no_places();
-    let mut rows = queue::no_places();
-    let fresh = Join::fresh(Rule::Near(2));
-    print(b"11. Near, width 2.");
-    let one = enter(fresh, &mut a, &mut b, &mut rows, A, entry_of(10, 20, 5));
-    let two = enter(one, &mut a, &mut b, &mut rows, B, entry_of(10, 20, key));
-    print_waiting(two);
-    print(b"\n");
-}
-
-fn example_12() {
-    let mut a = area::no_places();
-    let mut b = area::no_places();
-    let mut rows = queue::no_places();
-    let fresh = Join::fresh(Rule::Equal);
-    print(b"12.");
-    let one = take(fresh, &a, &b, &mut rows);
-    let two = close(one, &mut a, &mut b, &rows, A);
-    let three = close(two, &mut a, &mut b, &rows, B);
-    take(three, &a, &b, &mut rows);
-    print(b"\n");
+// One line of an example, on the join as the line before left it.
+fn call(
+    join: Join,
+    a: &mut area::Places,
+    b: &mut area::Places,
+    rows: &mut queue::Places,
+    line: [u32; 6],
+) -> Join {
+    let stream = stream_of(line[1]);
+    match line[0] {
+        ENTRY => enter(join, a, b, rows, stream, entry_of(line)),
+        ENTRIES => enter_many(join, a, b, rows, stream, entry_of(line), line[5]),
+        MARK => mark(join, a, b, rows, stream, line[2]),
+        CLOSE => close(join, a, b, rows, stream),
+        TAKE => take(join, a, b, rows),
+        _ => {
+            show(join, rows, line);
+            join
+        }
+    }
 }
 
 fn main() {
-    example_1();
-    example_2();
-    example_3();
-    example_4();
-    example_5();
-    example_6();
-    example_7();
-    example_8();
-    example_9();
-    example_10();
-    example_11(7);
-    example_11(8);
-    example_12();
+    let mut a = area::no_places();
+    let mut b = area::no_places();
+    let mut rows = queue::no_places();
+    let mut join = Join::fresh(Rule::Equal);
+    let mut i = 0;
+    while i < LINES {
+        let line = TABLE[i];
+        if line[0] == EXAMPLE {
+            if 0 < i {
+                print(b"\n");
+            }
+            a = area::no_places();
+            b = area::no_places();
+            rows = queue::no_places();
+            join = Join::fresh(rule_of(line[2]));
+            print_example(line[1], line[2]);
+        } else {
+            join = call(join, &mut a, &mut b, &mut rows, line);
+        }
+        i += 1;
+    }
+    print(b"\n");
 }

@@ -13,8 +13,8 @@ abbrev μ-loop : tie.MeasureT-loop
 loop-holds : tie.Need-loop-holds Inv-loop μ-loop
 loop-holds c = search needs
 
-enter-unseen-requires : tie.Need-enter-unseen-requires Inv-loop μ-loop
-enter-unseen-requires c κs = search needs
+entry-requires : tie.Need-entry-requires Inv-loop μ-loop
+entry-requires c κs = search needs
 
 add-i : tie.Need-add-i Inv-loop μ-loop
 add-i c = search needs
@@ -31,4 +31,4 @@ returns c = search needs
 pub enter-times-spec : {M : Type 1} → statement M
 enter-times-spec =
     tie.close
-    (tie.spec Inv-loop μ-loop loop-holds enter-unseen-requires add-i loop-less loop-again returns)
+    (tie.spec Inv-loop μ-loop loop-holds entry-requires add-i loop-less loop-again returns)
