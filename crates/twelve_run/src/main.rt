@@ -353,6 +353,12 @@ fn call(
     }
 }
 
+fn line_at(i: usize) -> [u32; 6]
+    requires { ⌜ i < 62 ⌝ }
+{
+    TABLE[i]
+}
+
 fn main() {
     let mut a = area::no_places();
     let mut b = area::no_places();
@@ -360,7 +366,7 @@ fn main() {
     let mut join = Join::fresh(Rule::Equal);
     let mut i = 0;
     while i < LINES {
-        let line = TABLE[i];
+        let line = line_at(i);
         if line[0] == EXAMPLE {
             if 0 < i {
                 print(b"\n");
