@@ -17,11 +17,16 @@ use Rattle.lists.proofs.InPlace.{padded-part}
 use Rattle.lists.proofs.Judge.{allOf-map, chain-map}
 use Rattle.lists.proofs.Store.{stores-length, stores-rest, stores-keep, row-listed, stores-judged}
 use Rattle.pairing.specs.declared.Numbered.{Numbered}
+use Rattle.pairing.specs.declared.Rule.{Rule}
 use Rattle.journal.specs.declared.Gate.{Gate}
 use Rattle.journal.specs.declared.Journal.{Journal}
 use Rattle.journal.specs.Journal.{wanted}
 use Rattle.area.specs.declared.Area.{Area}
-use Rattle.area.specs.Area.{heldIn, rowOf, places, held, areaOf, rowsOf, Holds, wantedBy, soundEntry, follows, isBlank, soundArea}
+use Rattle.area.specs.Area.{heldIn, rowOf, most, places, held, areaOf, rowsOf, Holds, wantedBy, soundEntry, follows, isBlank, soundArea}
+
+-- what an area may hold has places in it
+pub most-fits : most ≤ places
+most-fits = omega arith
 
 -- what is written is read back
 pub held-row : (x : Numbered) → heldIn (rowOf x) ≡ x
@@ -49,28 +54,28 @@ blank-row row long e =
     sym (row-held row long) ∙ (λ i. a i ∷ b i ∷ c i ∷ d i ∷ f i ∷ [])
 
 -- the judge's four tests, on the rows that it looks at
-pub sound-rows : (own : Journal) (other : Gate) (area : Area) (rows : Rows)
-    → soundArea own other area rows
-    ≡ leb (area .count) places
-    && (allOf (λ (row : List ℕ). soundEntry own other (heldIn row)) (take (area .count) rows)
+pub sound-rows : (rule : Rule) (own : Journal) (other : Gate) (area : Area) (rows : Rows)
+    → soundArea rule own other area rows
+    ≡ leb (area .count) most
+    && (allOf (λ (row : List ℕ). soundEntry rule own other (heldIn row)) (take (area .count) rows)
     && (chain (λ (x y : List ℕ). follows (heldIn x) (heldIn y)) (take (area .count) rows)
     && allOf (λ (row : List ℕ). isBlank (heldIn row)) (drop (area .count) rows)))
 unfolding soundArea
-sound-rows own other area rows =
-    rw (allOf-map heldIn (soundEntry own other) (take (area .count) rows), chain-map heldIn follows (take (area .count) rows), allOf-map heldIn isBlank (drop (area .count) rows))
+sound-rows rule own other area rows =
+    rw (allOf-map heldIn (soundEntry rule own other) (take (area .count) rows), chain-map heldIn follows (take (area .count) rows), allOf-map heldIn isBlank (drop (area .count) rows))
 
 -- the places of a sound area store what it holds
-pub sound-holds : (own : Journal) (other : Gate) (area : Area) (rows : Rows) → Shaped places 5 rows → soundArea own other area rows ≡ true → Holds area rows
+pub sound-holds : (rule : Rule) (own : Journal) (other : Gate) (area : Area) (rows : Rows) → Shaped places 5 rows → soundArea rule own other area rows ≡ true → Holds area rows
 unfolding soundArea
-sound-holds own other area rows shaped e =
-    let rest = and-right (leb (area .count) places) _ e in
-    let spare = and-right (chain follows (held area rows)) _ (and-right (allOf (soundEntry own other) (held area rows)) _ rest) in
-    stores-judged heldIn rowOf places 5 isBlank row-held blank-row (area .count) rows shaped (leb-true (area .count) places (and-left _ _ e)) spare
+sound-holds rule own other area rows shaped e =
+    let rest = and-right (leb (area .count) most) _ e in
+    let spare = and-right (chain follows (held area rows)) _ (and-right (allOf (soundEntry rule own other) (held area rows)) _ rest) in
+    stores-judged heldIn rowOf places 5 isBlank row-held blank-row (area .count) rows shaped (omega (arith, most-fits, leb-true (area .count) most (and-left _ _ e))) spare
 
 -- and follow one another
-pub sound-follows : (own : Journal) (other : Gate) (area : Area) (rows : Rows) → soundArea own other area rows ≡ true → chain follows (held area rows) ≡ true
+pub sound-follows : (rule : Rule) (own : Journal) (other : Gate) (area : Area) (rows : Rows) → soundArea rule own other area rows ≡ true → chain follows (held area rows) ≡ true
 unfolding soundArea
-sound-follows own other area rows e = and-left _ _ (and-right (allOf (soundEntry own other) (held area rows)) _ (and-right (leb (area .count) places) _ e))
+sound-follows rule own other area rows e = and-left _ _ (and-right (allOf (soundEntry rule own other) (held area rows)) _ (and-right (leb (area .count) most) _ e))
 
 module _ (area : Area) (rows : Rows) (h : Holds area rows) where
   pub holds-length : length rows ≡ places

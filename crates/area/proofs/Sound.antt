@@ -17,6 +17,7 @@ use Rattle.lists.proofs.Keep.{keep-passes, keep-length, all-keep, each-keep}
 use Rattle.lists.proofs.Store.{content-length, content-stored, stores-stored, spare-stored}
 use Rattle.pairing.specs.declared.Entry.{Entry}
 use Rattle.pairing.specs.declared.Numbered.{Numbered}
+use Rattle.pairing.specs.declared.Rule.{Rule}
 use Rattle.pairing.proofs.Arrival.{Later}
 use Rattle.journal.specs.declared.Gate.{Gate}
 use Rattle.journal.specs.declared.Gate.the-variants.{Open}
@@ -24,8 +25,8 @@ use Rattle.journal.specs.declared.Journal.{Journal}
 use Rattle.journal.specs.Journal.{wanted, notPast, moved, entered}
 use Rattle.journal.proofs.Onward.{Onward, notPast-onward}
 use Rattle.area.specs.declared.Area.{Area}
-use Rattle.area.specs.Area.{heldIn, rowOf, places, held, areaOf, rowsOf, Holds, wantedBy, soundEntry, follows, isBlank, soundArea}
-use Rattle.area.proofs.Laws.{held-row}
+use Rattle.area.specs.Area.{heldIn, rowOf, most, places, held, areaOf, rowsOf, Holds, wantedBy, soundEntry, follows, isBlank, soundArea}
+use Rattle.area.proofs.Laws.{most-fits, held-row}
 
 -- ---- the area that stores some entries
 
@@ -33,8 +34,8 @@ use Rattle.area.proofs.Laws.{held-row}
 pub held-stored : (xs : List Numbered) → held (areaOf xs) (rowsOf xs) ≡ xs
 held-stored xs = content-stored heldIn rowOf places 5 held-row xs (length xs) refl
 
-pub holds-stored : (xs : List Numbered) → length xs ≤ places → Holds (areaOf xs) (rowsOf xs)
-holds-stored xs h = stores-stored heldIn rowOf places 5 held-row xs (length xs) refl h
+pub holds-stored : (xs : List Numbered) → length xs ≤ most → Holds (areaOf xs) (rowsOf xs)
+holds-stored xs h = stores-stored heldIn rowOf places 5 held-row xs (length xs) refl (omega (arith, most-fits))
 
 -- it is the one that does
 module _ (area : Area) (rows : Rows) (h : Holds area rows) where
@@ -46,15 +47,15 @@ module _ (area : Area) (rows : Rows) (h : Holds area rows) where
 
 -- ---- the judge's tests as facts
 
-pub record SoundEntry (own : Journal) (other : Gate) (x : Numbered) : Type 0 where
+pub record SoundEntry (rule : Rule) (own : Journal) (other : Gate) (x : Numbered) : Type 0 where
   pub proper : properOf (x .entry .span) ≡ true
   pub needed : wanted other (x .entry) ≡ true
   pub numbered : x .ordinal < own .accepted
   pub started : notPast (own .gate) (x .entry .span .start) ≡ true
 
-pub record SoundHeld (own : Journal) (other : Gate) (xs : List Numbered) : Type 0 where
-  pub few : length xs ≤ places
-  pub sounds : All (SoundEntry own other) xs
+pub record SoundHeld (rule : Rule) (own : Journal) (other : Gate) (xs : List Numbered) : Type 0 where
+  pub few : length xs ≤ most
+  pub sounds : All (SoundEntry rule own other) xs
   pub laters : Each Later xs
 
 pub follows-later : (x y : Numbered) → follows x y ≡ true → Later x y
@@ -72,8 +73,8 @@ follows-trans x y z e f =
     let k = follows-later y z f in
     later-follows x z (omega arith, omega arith)
 
-module _ (own : Journal) (other : Gate) where
-  entry-facts : (x : Numbered) → soundEntry own other x ≡ true → SoundEntry own other x
+module _ (rule : Rule) (own : Journal) (other : Gate) where
+  entry-facts : (x : Numbered) → soundEntry rule own other x ≡ true → SoundEntry rule own other x
   entry-facts x e =
       let e1 = and-right (properOf (x .entry .span)) _ e in
       let e2 = and-right (wanted other (x .entry)) _ e1 in
@@ -84,36 +85,36 @@ module _ (own : Journal) (other : Gate) where
         started = and-right (ltb (x .ordinal) (own .accepted)) _ e2;
       }
 
-  entry-judged : (x : Numbered) → SoundEntry own other x → soundEntry own other x ≡ true
+  entry-judged : (x : Numbered) → SoundEntry rule own other x → soundEntry rule own other x ≡ true
   entry-judged x h = rw (h .proper, h .needed, lt-ltb (x .ordinal) (own .accepted) (h .numbered), h .started)
 
   -- what the judge passes
-  pub judged-held : (area : Area) (rows : Rows) → Holds area rows → soundArea own other area rows ≡ true → SoundHeld own other (held area rows)
+  pub judged-held : (area : Area) (rows : Rows) → Holds area rows → soundArea rule own other area rows ≡ true → SoundHeld rule own other (held area rows)
   unfolding soundArea
   judged-held area rows h e =
       let xs = held area rows in
-      let e1 = and-right (leb (area .count) places) _ e in
-      let e2 = and-right (allOf (soundEntry own other) xs) _ e1 in
+      let e1 = and-right (leb (area .count) most) _ e in
+      let e2 = and-right (allOf (soundEntry rule own other) xs) _ e1 in
       record {
-        few = omega (arith, held-length area rows h, h .few);
-        sounds = all-map (λ (x : Numbered). soundEntry own other x ≡ true) (SoundEntry own other) entry-facts xs (allOf-all (soundEntry own other) xs (and-left (allOf (soundEntry own other) xs) _ e1));
+        few = omega (arith, held-length area rows h, leb-true (area .count) most (and-left (leb (area .count) most) _ e));
+        sounds = all-map (λ (x : Numbered). soundEntry rule own other x ≡ true) (SoundEntry rule own other) entry-facts xs (allOf-all (soundEntry rule own other) xs (and-left (allOf (soundEntry rule own other) xs) _ e1));
         laters = each-map (λ (x y : Numbered). follows x y ≡ true) Later follows-later xs (chain-each follows follows-trans xs (and-left (chain follows xs) _ e2));
       }
 
   -- passes the judge
-  pub held-judged : (xs : List Numbered) → SoundHeld own other xs → soundArea own other (areaOf xs) (rowsOf xs) ≡ true
+  pub held-judged : (xs : List Numbered) → SoundHeld rule own other xs → soundArea rule own other (areaOf xs) (rowsOf xs) ≡ true
   unfolding soundArea heldIn
   held-judged xs h =
       rw (
         held-stored xs,
-        le-leb (length xs) places (h .few),
-        all-allOf (soundEntry own other) xs (all-map (SoundEntry own other) (λ (x : Numbered). soundEntry own other x ≡ true) entry-judged xs (h .sounds)),
+        le-leb (length xs) most (h .few),
+        all-allOf (soundEntry rule own other) xs (all-map (SoundEntry rule own other) (λ (x : Numbered). soundEntry rule own other x ≡ true) entry-judged xs (h .sounds)),
         each-chain follows xs (each-map Later (λ (x y : Numbered). follows x y ≡ true) later-follows xs (h .laters)),
         spare-stored heldIn rowOf places 5 held-row xs (length xs) refl isBlank refl,
       )
 
   -- nothing held is sound
-  pub held-none : SoundHeld own other []
+  pub held-none : SoundHeld rule own other []
   held-none = record { few = omega arith; sounds = tt; laters = tt }
 
 -- ---- kept
@@ -122,45 +123,45 @@ module _ (own : Journal) (other : Gate) where
 abbrev pub arriving : Journal → Entry → Numbered
 arriving own e = record { entry = e; ordinal = own .accepted }
 
-module _ (own : Journal) (other : Gate) (xs : List Numbered) (h : SoundHeld own other xs) where
+module _ (rule : Rule) (own : Journal) (other : Gate) (xs : List Numbered) (h : SoundHeld rule own other xs) where
   -- its journal's gate moves onward
-  pub held-moved : (gate : Gate) → Onward (own .gate) gate → SoundHeld (moved gate own) other xs
+  pub held-moved : (gate : Gate) → Onward (own .gate) gate → SoundHeld rule (moved gate own) other xs
   held-moved gate on = record {
     few = h .few;
-    sounds = all-map (SoundEntry own other) (SoundEntry (moved gate own) other)
+    sounds = all-map (SoundEntry rule own other) (SoundEntry rule (moved gate own) other)
         (λ x s. record { proper = s .proper; needed = s .needed; numbered = s .numbered; started = notPast-onward (own .gate) gate on (x .entry .span .start) (s .started) }) xs (h .sounds);
     laters = h .laters;
   }
 
   -- it is cleared by another gate of the other journal
-  pub held-cleared : (gate : Gate) → SoundHeld own gate (wantedBy gate xs)
+  pub held-cleared : (gate : Gate) → SoundHeld rule own gate (wantedBy gate xs)
   held-cleared gate =
       let wants : Numbered → Bool = λ x. wanted gate (x .entry) in
       record {
         few = omega (arith, keep-length wants xs, h .few);
-        sounds = all-map₂ (SoundEntry own other) (λ (x : Numbered). wants x ≡ true) (SoundEntry own gate) (λ x s e. record { proper = s .proper; needed = e; numbered = s .numbered; started = s .started }) (wantedBy gate xs)
-            (all-keep (SoundEntry own other) wants xs (h .sounds)) (keep-passes wants xs);
+        sounds = all-map₂ (SoundEntry rule own other) (λ (x : Numbered). wants x ≡ true) (SoundEntry rule own gate) (λ x s e. record { proper = s .proper; needed = e; numbered = s .numbered; started = s .started }) (wantedBy gate xs)
+            (all-keep (SoundEntry rule own other) wants xs (h .sounds)) (keep-passes wants xs);
         laters = each-keep Later wants xs (h .laters);
       }
 
   -- an entry comes, and is held if wanted
   module _ (e : Entry) (proper : properOf (e .span) ≡ true) (on : Onward (own .gate) (Open (e .span .start))) where
-    still : All (SoundEntry (entered e own) other) xs
-    still = all-map (SoundEntry own other) (SoundEntry (entered e own) other)
+    still : All (SoundEntry rule (entered e own) other) xs
+    still = all-map (SoundEntry rule own other) (SoundEntry rule (entered e own) other)
         (λ x s. record { proper = s .proper; needed = s .needed; numbered = omega (arith, s .numbered); started = notPast-onward (own .gate) (Open (e .span .start)) on (x .entry .span .start) (s .started) }) xs (h .sounds)
 
     -- the new one is later than all
-    before-new : (x : Numbered) → SoundEntry own other x → Later x (arriving own e)
+    before-new : (x : Numbered) → SoundEntry rule own other x → Later x (arriving own e)
     before-new x s = (s .numbered, leb-true (x .entry .span .start) (e .span .start) (notPast-onward (own .gate) (Open (e .span .start)) on (x .entry .span .start) (s .started)))
 
-    pub held-entered : (wanted other e ≡ true → length xs < places) → SoundHeld (entered e own) other (xs ++ wantedBy other (arriving own e ∷ []))
+    pub held-entered : (wanted other e ≡ true → length xs < most) → SoundHeld rule (entered e own) other (xs ++ wantedBy other (arriving own e ∷ []))
     held-entered room = go (wanted other e) refl
       where
-        go : (b : Bool) → wanted other e ≡ b → SoundHeld (entered e own) other (xs ++ cond b (arriving own e ∷ []) [])
+        go : (b : Bool) → wanted other e ≡ b → SoundHeld rule (entered e own) other (xs ++ cond b (arriving own e ∷ []) [])
         go true w = record {
           few = omega (arith, room w, length-append xs (arriving own e ∷ []));
-          sounds = all-append (SoundEntry (entered e own) other) xs (arriving own e ∷ []) still
+          sounds = all-append (SoundEntry rule (entered e own) other) xs (arriving own e ∷ []) still
               (record { proper = proper; needed = w; numbered = omega arith; started = le-leb (e .span .start) (e .span .start) (omega arith) }, tt);
-          laters = each-append Later xs (arriving own e ∷ []) (h .laters) (tt, tt) (all-map (SoundEntry own other) (λ (x : Numbered). All (Later x) (arriving own e ∷ [])) (λ x s. (before-new x s, tt)) xs (h .sounds));
+          laters = each-append Later xs (arriving own e ∷ []) (h .laters) (tt, tt) (all-map (SoundEntry rule own other) (λ (x : Numbered). All (Later x) (arriving own e ∷ [])) (λ x s. (before-new x s, tt)) xs (h .sounds));
         }
         go false w = rw (append-nil xs) (record { few = h .few; sounds = still; laters = h .laters })

@@ -25,8 +25,12 @@ unfoldable pub rowOf : Numbered → List ℕ
 rowOf x = x .entry .span .start ∷ x .entry .span .end ∷ x .entry .key ∷ x .entry .value ∷ x .ordinal ∷ []
 
 -- Limits: 64 held entries an area.
+abbrev pub most : ℕ
+most = 64
+
+-- how many places an area has: one for each entry that it may hold
 abbrev pub places : ℕ
-places = 64
+places = most
 
 -- what an area holds, in the order of its places
 abbrev pub held : Area → Rows → List Numbered
@@ -51,8 +55,8 @@ abbrev pub wantedBy : Gate → List Numbered → List Numbered
 wantedBy gate xs = keep (λ (x : Numbered). wanted gate (x .entry)) xs
 
 -- Held entries are proper, wanted, with ordinals below the journal's count and starts that, if their journal is open, do not pass its clock.
-abbrev pub soundEntry : Journal → Gate → Numbered → Bool
-soundEntry own other x =
+abbrev pub soundEntry : Rule → Journal → Gate → Numbered → Bool
+soundEntry rule own other x =
     properOf (x .entry .span) && (wanted other (x .entry) && (ltb (x .ordinal) (own .accepted) && notPast (own .gate) (x .entry .span .start)))
 
 -- in strictly ascending ordinals, with starts that never fall
@@ -64,9 +68,9 @@ abbrev pub isBlank : Numbered → Bool
 isBlank x =
     eqb (x .entry .span .start) 0 && (eqb (x .entry .span .end) 0 && (eqb (x .entry .key) 0 && (eqb (x .entry .value) 0 && eqb (x .ordinal) 0)))
 
-unfoldable pub soundArea : Journal → Gate → Area → Rows → Bool
-soundArea own other area rows =
-    leb (area .count) places
-    && (allOf (soundEntry own other) (held area rows)
+unfoldable pub soundArea : Rule → Journal → Gate → Area → Rows → Bool
+soundArea rule own other area rows =
+    leb (area .count) most
+    && (allOf (soundEntry rule own other) (held area rows)
     && (chain follows (held area rows)
     && allOf isBlank (map heldIn (drop (area .count) rows))))

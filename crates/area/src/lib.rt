@@ -23,7 +23,9 @@ pub struct Area {
 
 impl Area {
     // How many entries an area may hold.
-    pub const PLACES: usize = 64;
+    pub const MOST: usize = 64;
+    // How many places it has: one for each.
+    pub const PLACES: usize = Area::MOST;
 }
 
 // A row is start, end, key, value and ordinal.
@@ -105,8 +107,8 @@ fn shaped(rows: Places)
     ensures { λ _. ⌜ Shaped places 5 rows ⌝ }
 {}
 
-fn entry_sound(x: Numbered, own: Journal, other: Gate) -> bool
-    ensures { λ r. ⌜ r ≡ soundEntry own other x ⌝ }
+fn entry_sound(x: Numbered, rule: Rule, own: Journal, other: Gate) -> bool
+    ensures { λ r. ⌜ r ≡ soundEntry rule own other x ⌝ }
 {
     let gate = own.gate;
     x.entry.span.proper()
@@ -127,13 +129,13 @@ fn is_blank(x: Numbered) -> bool
 }
 
 // Is every held entry sound?
-fn entries_sound(rows: &Places, n: usize, own: Journal, other: Gate) -> bool
+fn entries_sound(rows: &Places, n: usize, rule: Rule, own: Journal, other: Gate) -> bool
     requires { ⌜ (n ≤ places) × (length (now rows) ≡ places) ⌝ }
-    ensures { λ r. ⌜ r ≡ allOf (λ row. soundEntry own other (heldIn row)) (take n (now (rows .entry))) ⌝ }
+    ensures { λ r. ⌜ r ≡ allOf (λ row. soundEntry rule own other (heldIn row)) (take n (now (rows .entry))) ⌝ }
 {
     let mut i = 0;
     while i < n {
-        if !entry_sound(entry_in(rows[i]), own, other) {
+        if !entry_sound(entry_in(rows[i]), rule, own, other) {
             return false;
         }
         i += 1;
@@ -220,17 +222,17 @@ impl Area {
         found
     }
 
-    // Is the state of the area sound, beside its own journal and the other's gate? Then its places store just what it holds.
-    pub fn sound(self, rows: &Places, own: Journal, other: Gate) -> bool
-        ensures { λ r. ⌜ r ≡ soundArea own other self (now (rows .entry)) ⌝ }
+    // Is the state of the area sound, beside the rule, its own journal and the other's gate? Then its places store just what it holds.
+    pub fn sound(self, rows: &Places, rule: Rule, own: Journal, other: Gate) -> bool
+        ensures { λ r. ⌜ r ≡ soundArea rule own other self (now (rows .entry)) ⌝ }
         ensures { λ r. ⌜ (r ≡ true → Holds self (now (rows .entry))) ⌝ }
     {
         let all = *rows;
         shaped(all);
         let n = self.count;
-        if Area::PLACES < n {
+        if Area::MOST < n {
             return false;
         }
-        entries_sound(rows, n, own, other) && (in_order(rows, n) && spare_blank(rows, n))
+        entries_sound(rows, n, rule, own, other) && (in_order(rows, n) && spare_blank(rows, n))
     }
 }

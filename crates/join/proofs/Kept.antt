@@ -38,8 +38,8 @@ use Rattle.join.proofs.View.{across, turned, view-across, stateOf-acros
 pub record SoundView (side : Side) (v : View) : Type 0 where
   pub own-count : v .own .accepted ≤ entries
   pub other-count : v .other .accepted ≤ entries
-  pub mine : areas.SoundHeld (v .own) (v .other .gate) (v .mine)
-  pub others : areas.SoundHeld (v .other) (v .own .gate) (v .others)
+  pub mine : areas.SoundHeld (v .rule) (v .own) (v .other .gate) (v .mine)
+  pub others : areas.SoundHeld (v .rule) (v .other) (v .own .gate) (v .others)
   pub waiting : queues.SoundWaiting side (v .own .accepted) (v .other .accepted) (v .waiting)
 
 -- it is the same from both sides
@@ -66,14 +66,14 @@ seen-from-a s h =
     let b = s .join .b in
     let e1 = and-right (leb (a .journal .accepted) entries) _ (h .judged) in
     let e2 = and-right (leb (b .journal .accepted) entries) _ e1 in
-    let e3 = and-right (area.soundArea (a .journal) (b .journal .gate) (a .area) (s .inA)) _ e2 in
+    let e3 = and-right (area.soundArea (s .join .rule) (a .journal) (b .journal .gate) (a .area) (s .inA)) _ e2 in
     record {
       own-count = leb-true (a .journal .accepted) entries (and-left (leb (a .journal .accepted) entries) _ (h .judged));
       other-count = leb-true (b .journal .accepted) entries (and-left (leb (b .journal .accepted) entries) _ e1);
-      mine = areas.judged-held (a .journal) (b .journal .gate) (a .area) (s .inA) (h .holdsA) (and-left (area.soundArea (a .journal) (b .journal .gate) (a .area) (s .inA)) _ e2);
-      others = areas.judged-held (b .journal) (a .journal .gate) (b .area) (s .inB) (h .holdsB) (and-left (area.soundArea (b .journal) (a .journal .gate) (b .area) (s .inB)) _ e3);
+      mine = areas.judged-held (s .join .rule) (a .journal) (b .journal .gate) (a .area) (s .inA) (h .holdsA) (and-left (area.soundArea (s .join .rule) (a .journal) (b .journal .gate) (a .area) (s .inA)) _ e2);
+      others = areas.judged-held (s .join .rule) (b .journal) (a .journal .gate) (b .area) (s .inB) (h .holdsB) (and-left (area.soundArea (s .join .rule) (b .journal) (a .journal .gate) (b .area) (s .inB)) _ e3);
       waiting = queues.judged-waiting (a .journal .accepted) (b .journal .accepted) (s .join .queue) (s .rows) (h .holdsQueue)
-          (and-right (area.soundArea (b .journal) (a .journal .gate) (b .area) (s .inB)) _ e3);
+          (and-right (area.soundArea (s .join .rule) (b .journal) (a .journal .gate) (b .area) (s .inB)) _ e3);
     }
 
 -- what a side sees of a sound state is sound
@@ -88,8 +88,8 @@ stored-from-a v h = record {
       rw (
         le-leb (v .own .accepted) entries (h .own-count),
         le-leb (v .other .accepted) entries (h .other-count),
-        areas.held-judged (v .own) (v .other .gate) (v .mine) (h .mine),
-        areas.held-judged (v .other) (v .own .gate) (v .others) (h .others),
+        areas.held-judged (v .rule) (v .own) (v .other .gate) (v .mine) (h .mine),
+        areas.held-judged (v .rule) (v .other) (v .own .gate) (v .others) (h .others),
       )
       (queues.waiting-judged (v .own .accepted) (v .other .accepted) (v .waiting) (h .waiting));
   holdsA = areas.holds-stored (v .mine) (h .mine .few);
@@ -109,8 +109,8 @@ unfolding freshState
 sound-fresh rule = sound-stateOf A (record { rule = rule; own = freshJournal; other = freshJournal; mine = []; others = []; waiting = [] }) (record {
   own-count = omega arith;
   other-count = omega arith;
-  mine = areas.held-none freshJournal (Open 0);
-  others = areas.held-none freshJournal (Open 0);
+  mine = areas.held-none rule freshJournal (Open 0);
+  others = areas.held-none rule freshJournal (Open 0);
   waiting = queues.waiting-none A 0 0;
 })
 
@@ -122,8 +122,8 @@ module _ (side : Side) (v : View) (h : SoundView side v) where
   sound-move gate on = record {
     own-count = h .own-count;
     other-count = h .other-count;
-    mine = areas.held-moved (v .own) (v .other .gate) (v .mine) (h .mine) gate on;
-    others = areas.held-cleared (v .other) (v .own .gate) (v .others) (h .others) gate;
+    mine = areas.held-moved (v .rule) (v .own) (v .other .gate) (v .mine) (h .mine) gate on;
+    others = areas.held-cleared (v .rule) (v .other) (v .own .gate) (v .others) (h .others) gate;
     waiting = h .waiting;
   }
 
@@ -137,10 +137,10 @@ module _ (side : Side) (v : View) (h : SoundView side v) where
       record {
         own-count = omega arith;
         other-count = h .other-count;
-        mine = areas.held-entered (v .own) (v .other .gate) (v .mine) (h .mine) e proper on (λ w. leb-false area.places (length (v .mine)) (rw w at (rows .1 .1 .1 .1 .0)));
-        others = areas.held-cleared (v .other) (v .own .gate) (v .others) (h .others) (Open start);
+        mine = areas.held-entered (v .rule) (v .own) (v .other .gate) (v .mine) (h .mine) e proper on (λ w. leb-false area.most (length (v .mine)) (rw w at (rows .1 .1 .1 .1 .0)));
+        others = areas.held-cleared (v .rule) (v .other) (v .own .gate) (v .others) (h .others) (Open start);
         waiting = queues.waiting-merged side (v .own .accepted) (v .other .accepted) (v .waiting) (h .waiting) (v .rule) (arrival v e) (v .others) refl
-            (all-map (areas.SoundEntry (v .other) (v .own .gate)) (λ (y : Numbered). y .ordinal < v .other .accepted) (λ y s. s .numbered) (v .others) (h .others .sounds))
+            (all-map (areas.SoundEntry (v .rule) (v .other) (v .own .gate)) (λ (y : Numbered). y .ordinal < v .other .accepted) (λ y s. s .numbered) (v .others) (h .others .sounds))
             (h .others .laters) (ltb-false queue.places (length (v .waiting) + length (formed side v e)) (rows .1 .1 .1 .1 .1 .0));
       }
 
@@ -200,16 +200,16 @@ module _ (s : State) (h : Sound s) where
       let b = s .join .b in
       let e1 = and-right (leb (a .journal .accepted) entries) _ (h .judged) in
       let e2 = and-right (leb (b .journal .accepted) entries) _ e1 in
-      let e3 = and-right (area.soundArea (a .journal) (b .journal .gate) (a .area) (s .inA)) _ e2 in
+      let e3 = and-right (area.soundArea (s .join .rule) (a .journal) (b .journal .gate) (a .area) (s .inA)) _ e2 in
       let left = queues.waiting-dropped A (a .journal .accepted) (b .journal .accepted) (waitingIn s)
-      (queues.judged-waiting (a .journal .accepted) (b .journal .accepted) (s .join .queue) (s .rows) (h .holdsQueue) (and-right (area.soundArea (b .journal) (a .journal .gate) (b .area) (s .inB)) _ e3)) k in
+      (queues.judged-waiting (a .journal .accepted) (b .journal .accepted) (s .join .queue) (s .rows) (h .holdsQueue) (and-right (area.soundArea (s .join .rule) (b .journal) (a .journal .gate) (b .area) (s .inB)) _ e3)) k in
       record {
         judged =
             rw (
               and-left (leb (a .journal .accepted) entries) _ (h .judged),
               and-left (leb (b .journal .accepted) entries) _ e1,
-              and-left (area.soundArea (a .journal) (b .journal .gate) (a .area) (s .inA)) _ e2,
-              and-left (area.soundArea (b .journal) (a .journal .gate) (b .area) (s .inB)) _ e3,
+              and-left (area.soundArea (s .join .rule) (a .journal) (b .journal .gate) (a .area) (s .inA)) _ e2,
+              and-left (area.soundArea (s .join .rule) (b .journal) (a .journal .gate) (b .area) (s .inB)) _ e3,
             )
             (queues.waiting-judged (a .journal .accepted) (b .journal .accepted) (drop k (waitingIn s)) left);
         holdsA = h .holdsA;

@@ -92,18 +92,18 @@ firstRows own other count e =
     ∷ (not (properOf (e .span)) gives 3)
     ∷ (isBehind (own .gate) (e .span .start) gives 4)
     ∷ (leb entries (own .accepted) gives 5)
-    ∷ (wanted other e && leb area.places count gives 6)
+    ∷ (wanted other e && leb area.most count gives 6)
     ∷ []
 
 -- what they tell where none applies
-pub first-tells : (own : Journal) (other : Gate) (count : ℕ) (e : Entry) → firstOf (firstRows own other count e) ≡ Accepted → (own .accepted < entries) × (wanted other e ≡ true → count < area.places)
+pub first-tells : (own : Journal) (other : Gate) (count : ℕ) (e : Entry) → firstOf (firstRows own other count e) ≡ Accepted → (own .accepted < entries) × (wanted other e ≡ true → count < area.most)
 first-tells own other count e h =
     let s3 = accepted-not (isClosed (own .gate)) 2 _ h .1 in
     let s4 = accepted-not (not (properOf (e .span))) 3 _ s3 .1 in
     let s5 = accepted-not (isBehind (own .gate) (e .span .start)) 4 _ s4 .1 in
     let s6 = accepted-not (leb entries (own .accepted)) 5 _ s5 in
-    let s7 = accepted-not (wanted other e && leb area.places count) 6 _ (s6 .1) .0 in
-    (leb-false entries (own .accepted) (s6 .0), λ w. leb-false area.places count (room (wanted other e) (leb area.places count) s7 w))
+    let s7 = accepted-not (wanted other e && leb area.most count) 6 _ (s6 .1) .0 in
+    (leb-false entries (own .accepted) (s6 .0), λ w. leb-false area.most count (room (wanted other e) (leb area.most count) s7 w))
   where
     room : (a b : Bool) → a && b ≡ false → a ≡ true → b ≡ false
     room true b e f = e
@@ -182,15 +182,15 @@ module _ (rule : Rule) (side : Side) (own other : Half) (waiting : Queue) (mine 
 module _ (s : State) (ok : Sound s) where
   sound-queue : queue.soundQueue (s .join .a .journal .accepted) (s .join .b .journal .accepted) (s .join .queue) (s .rows) ≡ true
   unfolding sound
-  sound-queue = and-right (area.soundArea (s .join .b .journal) (s .join .a .journal .gate) (s .join .b .area) (s .inB)) _ (and-right (area.soundArea (s .join .a .journal) (s .join .b .journal .gate) (s .join .a .area) (s .inA)) _ (and-right (leb (s .join .b .journal .accepted) entries) _ (and-right (leb (s .join .a .journal .accepted) entries) _ (ok .judged))))
+  sound-queue = and-right (area.soundArea (s .join .rule) (s .join .b .journal) (s .join .a .journal .gate) (s .join .b .area) (s .inB)) _ (and-right (area.soundArea (s .join .rule) (s .join .a .journal) (s .join .b .journal .gate) (s .join .a .area) (s .inA)) _ (and-right (leb (s .join .b .journal .accepted) entries) _ (and-right (leb (s .join .a .journal .accepted) entries) _ (ok .judged))))
 
-  sound-a : area.soundArea (s .join .a .journal) (s .join .b .journal .gate) (s .join .a .area) (s .inA) ≡ true
+  sound-a : area.soundArea (s .join .rule) (s .join .a .journal) (s .join .b .journal .gate) (s .join .a .area) (s .inA) ≡ true
   unfolding sound
   sound-a = and-left _ _ (and-right (leb (s .join .b .journal .accepted) entries) _ (and-right (leb (s .join .a .journal .accepted) entries) _ (ok .judged)))
 
-  sound-b : area.soundArea (s .join .b .journal) (s .join .a .journal .gate) (s .join .b .area) (s .inB) ≡ true
+  sound-b : area.soundArea (s .join .rule) (s .join .b .journal) (s .join .a .journal .gate) (s .join .b .area) (s .inB) ≡ true
   unfolding sound
-  sound-b = and-left _ _ (and-right (area.soundArea (s .join .a .journal) (s .join .b .journal .gate) (s .join .a .area) (s .inA)) _ (and-right (leb (s .join .b .journal .accepted) entries) _ (and-right (leb (s .join .a .journal .accepted) entries) _ (ok .judged))))
+  sound-b = and-left _ _ (and-right (area.soundArea (s .join .rule) (s .join .a .journal) (s .join .b .journal .gate) (s .join .a .area) (s .inA)) _ (and-right (leb (s .join .b .journal .accepted) entries) _ (and-right (leb (s .join .a .journal .accepted) entries) _ (ok .judged))))
 
   -- the waiting pairs of a sound state are in order
   pub sound-order : chain comesBefore (queue.waiting (s .join .queue) (s .rows)) ≡ true
@@ -202,7 +202,7 @@ module _ (s : State) (ok : Sound s) where
     holds-mine = ok .holdsA;
     holds-others = ok .holdsB;
     holds-rows = ok .holdsQueue;
-    others-follow = area-laws.sound-follows (s .join .b .journal) (s .join .a .journal .gate) (s .join .b .area) (s .inB) sound-b;
+    others-follow = area-laws.sound-follows (s .join .rule) (s .join .b .journal) (s .join .a .journal .gate) (s .join .b .area) (s .inB) sound-b;
     in-order = sound-order;
   }
 
@@ -211,7 +211,7 @@ module _ (s : State) (ok : Sound s) where
     holds-mine = ok .holdsB;
     holds-others = ok .holdsA;
     holds-rows = ok .holdsQueue;
-    others-follow = area-laws.sound-follows (s .join .a .journal) (s .join .b .journal .gate) (s .join .a .area) (s .inA) sound-a;
+    others-follow = area-laws.sound-follows (s .join .rule) (s .join .a .journal) (s .join .b .journal .gate) (s .join .a .area) (s .inA) sound-a;
     in-order = sound-order;
   }
 

@@ -64,7 +64,7 @@ entryRows side v e =
     ∷ (not (properOf (e .span)) gives 3)
     ∷ (isBehind (v .own .gate) (e .span .start) gives 4)
     ∷ (leb entries (v .own .accepted) gives 5)
-    ∷ (wanted (v .other .gate) e && leb area.places (length (v .mine)) gives 6)
+    ∷ (wanted (v .other .gate) e && leb area.most (length (v .mine)) gives 6)
     ∷ (ltb queue.places (length (v .waiting) + length (formed side v e)) gives 7)
     ∷ []
 

@@ -39,8 +39,8 @@ unfoldable pub sound : State → Bool
 sound s =
     leb (s .join .a .journal .accepted) entries
     && (leb (s .join .b .journal .accepted) entries
-    && (area.soundArea (s .join .a .journal) (s .join .b .journal .gate) (s .join .a .area) (s .inA)
-    && (area.soundArea (s .join .b .journal) (s .join .a .journal .gate) (s .join .b .area) (s .inB)
+    && (area.soundArea (s .join .rule) (s .join .a .journal) (s .join .b .journal .gate) (s .join .a .area) (s .inA)
+    && (area.soundArea (s .join .rule) (s .join .b .journal) (s .join .a .journal .gate) (s .join .b .area) (s .inB)
     && queue.soundQueue (s .join .a .journal .accepted) (s .join .b .journal .accepted) (s .join .queue) (s .rows))))
 
 -- a sound state whose places are such as the types of the code allow: they store what is held and waiting

@@ -81,7 +81,7 @@ struct Halves {
 
 impl Join {
     // How many entries an area may hold.
-    pub const HELD: usize = Area::PLACES;
+    pub const HELD: usize = Area::MOST;
     // How many pairs may wait.
     pub const WAITING: usize = Queue::PLACES;
     // How many entries a journal may accept.
@@ -107,6 +107,7 @@ impl Join {
         ensures { λ r. ⌜ r ≡ sound (stateWith self (now (a .entry)) (now (b .entry)) (now (rows .entry))) ⌝ }
         ensures { λ r. ⌜ (r ≡ true → Sound (stateWith self (now (a .entry)) (now (b .entry)) (now (rows .entry)))) ⌝ }
     {
+        let rule = self.rule;
         let own = self.a.journal;
         let own_gate = own.gate;
         let other = self.b.journal;
@@ -116,15 +117,15 @@ impl Join {
         let waiting = self.queue;
         own.accepted <= Join::ENTRIES
             && (other.accepted <= Join::ENTRIES
-                && (area_a.sound(a, own, other_gate)
-                    && (area_b.sound(b, other, own_gate)
+                && (area_a.sound(a, rule, own, other_gate)
+                    && (area_b.sound(b, rule, other, own_gate)
                         && waiting.sound(rows, own.accepted, other.accepted))))
     }
 }
 
 // What refuses an entry before its pairs are counted.
 fn entry_answer(own: Half, other: Gate, e: Entry) -> Answer
-    ensures { λ r. ⌜ r ≡ firstOf ((isClosed (own .journal .gate) gives 2) ∷ (not (properOf (e .span)) gives 3) ∷ (isBehind (own .journal .gate) (e .span .start) gives 4) ∷ (leb entries (own .journal .accepted) gives 5) ∷ (wanted other e && leb the_area.places (own .area .count) gives 6) ∷ []) ⌝ }
+    ensures { λ r. ⌜ r ≡ firstOf ((isClosed (own .journal .gate) gives 2) ∷ (not (properOf (e .span)) gives 3) ∷ (isBehind (own .journal .gate) (e .span .start) gives 4) ∷ (leb entries (own .journal .accepted) gives 5) ∷ (wanted other e && leb the_area.most (own .area .count) gives 6) ∷ []) ⌝ }
 {
     let journal = own.journal;
     let gate = journal.gate;
@@ -148,7 +149,7 @@ fn entry_answer(own: Half, other: Gate, e: Entry) -> Answer
 
 // The entry held behind the others, if the other journal wants it.
 fn hold_wanted(area: Area, rows: &mut area::Places, x: Numbered, other: Gate) -> Area
-    requires { ⌜ (the_area.Holds area (now rows)) × (wanted other (x .entry) ≡ true → area .count < the_area.places) ⌝ }
+    requires { ⌜ (the_area.Holds area (now rows)) × (wanted other (x .entry) ≡ true → area .count < the_area.most) ⌝ }
     ensures { λ r. ⌜ r ≡ the_area.areaOf (the_area.held area (now (rows .entry)) ++ the_area.wantedBy other (x ∷ [])) ⌝ }
     ensures { λ _. ⌜ now (rows .exit) ≡ the_area.rowsOf (the_area.held area (now (rows .entry)) ++ the_area.wantedBy other (x ∷ [])) ⌝ }
 {
@@ -172,7 +173,7 @@ fn admit(
     new: usize,
 ) -> Turned
     requires { ⌜ Stand own other waiting (now mine) (now others) (now rows) ⌝ }
-    requires { ⌜ (new ≡ length (the_area.partners rule e (the_area.held (other .area) (now others)))) × (waiting .count + new ≤ the_queue.places) × (own .journal .accepted < entries) × (wanted (other .journal .gate) e ≡ true → own .area .count < the_area.places) ⌝ }
+    requires { ⌜ (new ≡ length (the_area.partners rule e (the_area.held (other .area) (now others)))) × (waiting .count + new ≤ the_queue.places) × (own .journal .accepted < entries) × (wanted (other .journal .gate) e ≡ true → own .area .count < the_area.most) ⌝ }
     ensures { λ r. ⌜ r .answer ≡ Answer.Accepted ⌝ }
     ensures { λ r. ⌜ Leaves (afterEntry side (seen rule own other waiting (now (mine .entry)) (now (others .entry)) (now (rows .entry))) e) (r .own) (r .other) (r .queue) (now (mine .exit)) (now (others .exit)) (now (rows .exit)) ⌝ }
 {

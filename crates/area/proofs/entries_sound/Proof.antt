@@ -14,10 +14,10 @@ use Rattle.area.proofs.entries_sound.Statement.{statement}
 use Rattle.area.proofs.entries_sound.Tie as tie
 
 abbrev Inv-loop : tie.InvT-loop
-Inv-loop rows n own other i₀ i = (i ≤ n) × (allOf (λ (row : List ℕ). soundEntry own other (heldIn row)) (take i rows) ≡ true)
+Inv-loop rows n rule own other i₀ i = (i ≤ n) × (allOf (λ (row : List ℕ). soundEntry rule own other (heldIn row)) (take i rows) ≡ true)
 
 abbrev μ-loop : tie.MeasureT-loop
-μ-loop rows n own other i₀ i = n - i
+μ-loop rows n rule own other i₀ i = n - i
 
 loop-holds : tie.Need-loop-holds Inv-loop μ-loop
 loop-holds c = (omega arith, refl)
@@ -38,8 +38,8 @@ returns : tie.Need-returns Inv-loop μ-loop
 returns c =
     let s = c .before .before .before .before .before in
     let st = s .before in
-    let tested = c .before .entry-sound .ensures ∙ ap (soundEntry (st .args .own) (st .args .other)) (c .before .before .entry-in .ensures) in
-    sym (allOf-fails (λ (row : List ℕ). soundEntry (st .args .own) (st .args .other) (heldIn row)) (st .args .rows .now) 0 (s .loop .i) (st .args .n) [] (omega arith) (omega arith) (omega arith) (sym tested ∙ not-true _ (c .if1 .taken)))
+    let tested = c .before .entry-sound .ensures ∙ ap (soundEntry (st .args .rule) (st .args .own) (st .args .other)) (c .before .before .entry-in .ensures) in
+    sym (allOf-fails (λ (row : List ℕ). soundEntry (st .args .rule) (st .args .own) (st .args .other) (heldIn row)) (st .args .rows .now) 0 (s .loop .i) (st .args .n) [] (omega arith) (omega arith) (omega arith) (sym tested ∙ not-true _ (c .if1 .taken)))
 
 add-i : tie.Need-add-i Inv-loop μ-loop
 add-i c = search needs
@@ -51,15 +51,15 @@ loop-again : tie.Need-loop-again Inv-loop μ-loop
 loop-again c =
     let s = c .before .before .before .before .before in
     let st = s .before in
-    let tested = c .before .entry-sound .ensures ∙ ap (soundEntry (st .args .own) (st .args .other)) (c .before .before .entry-in .ensures) in
-    (omega arith, allOf-more (λ (row : List ℕ). soundEntry (st .args .own) (st .args .other) (heldIn row)) (st .args .rows .now) 0 (s .loop .i) [] (omega arith) (omega arith) (s .loop .inv .1) (sym tested ∙ not-false _ (c .if1 .left)))
+    let tested = c .before .entry-sound .ensures ∙ ap (soundEntry (st .args .rule) (st .args .own) (st .args .other)) (c .before .before .entry-in .ensures) in
+    (omega arith, allOf-more (λ (row : List ℕ). soundEntry (st .args .rule) (st .args .own) (st .args .other) (heldIn row)) (st .args .rows .now) 0 (s .loop .i) [] (omega arith) (omega arith) (s .loop .inv .1) (sym tested ∙ not-false _ (c .if1 .left)))
 
 returns-2 : tie.Need-returns-2 Inv-loop μ-loop
 returns-2 c =
     let s = c .before in
     let st = s .before in
     let e : s .loop .i ≡ st .args .n = omega arith in
-    sym (ap (λ (m : ℕ). allOf (λ (row : List ℕ). soundEntry (st .args .own) (st .args .other) (heldIn row)) (take m (st .args .rows .now))) (sym e) ∙ s .loop .inv .1)
+    sym (ap (λ (m : ℕ). allOf (λ (row : List ℕ). soundEntry (st .args .rule) (st .args .own) (st .args .other) (heldIn row)) (take m (st .args .rows .now))) (sym e) ∙ s .loop .inv .1)
 
 pub entries-sound-spec : {M : Type 1} → statement M
 entries-sound-spec =

@@ -1,9 +1,11 @@
 -- `hold_wanted` meets its contract: a wanted entry goes behind the others, another leaves the area as it is.
 use borrow.Author.Needs.{needs}
+use native.Mathlib.Omega.{arith}
 use mathlib.Core.List.{append-nil}
 use mathlib.Core.Path.{sym, _∙_}
 use Rattle.lists.proofs.Store.{content-length}
 use Rattle.area.specs.Area.{heldIn, rowOf, places, held}
+use Rattle.area.proofs.Laws.{most-fits}
 use Rattle.join.proofs.hold_wanted.Statement.{statement}
 use Rattle.join.proofs.hold_wanted.Tie as tie
 
@@ -13,7 +15,7 @@ wants-requires c κs = search needs
 hold-requires : tie.Need-hold-requires
 hold-requires c κs =
     let st = c .before .before .before in
-    (st .pre .0, st .pre .1 (sym (c .before .before .wants .ensures) ∙ c .before .if1 .taken))
+    (st .pre .0, omega (arith, most-fits, st .pre .1 (sym (c .before .before .wants .ensures) ∙ c .before .if1 .taken)))
 
 returns : tie.Need-returns
 returns c =
