@@ -25,22 +25,22 @@ use Rattle.journal.specs.declared.Journal.{Journal}
 use Rattle.journal.specs.Journal.{wanted, notPast, moved, entered}
 use Rattle.journal.proofs.Onward.{Onward, notPast-onward}
 use Rattle.area.specs.declared.Area.{Area}
-use Rattle.area.specs.Area.{heldIn, rowOf, most, places, held, areaOf, rowsOf, Holds, wantedBy, soundEntry, follows, isBlank, soundArea}
+use Rattle.area.specs.Area.{heldIn, width, rowOf, most, places, held, areaOf, rowsOf, Holds, wantedBy, soundEntry, follows, soundArea}
 use Rattle.area.proofs.Laws.{most-fits, held-row}
 
 -- ---- the area that stores some entries
 
 -- it holds them
 pub held-stored : (xs : List Numbered) → held (areaOf xs) (rowsOf xs) ≡ xs
-held-stored xs = content-stored heldIn rowOf places 5 held-row xs (length xs) refl
+held-stored xs = content-stored heldIn rowOf places width held-row xs (length xs) refl
 
 pub holds-stored : (xs : List Numbered) → length xs ≤ most → Holds (areaOf xs) (rowsOf xs)
-holds-stored xs h = stores-stored heldIn rowOf places 5 held-row xs (length xs) refl (omega (arith, most-fits))
+holds-stored xs h = stores-stored heldIn rowOf places width held-row xs (length xs) refl (omega (arith, most-fits))
 
 -- it is the one that does
 module _ (area : Area) (rows : Rows) (h : Holds area rows) where
   pub held-length : length (held area rows) ≡ area .count
-  held-length = content-length heldIn rowOf places 5 (area .count) rows h
+  held-length = content-length heldIn rowOf places width (area .count) rows h
 
   pub area-held : areaOf (held area rows) ≡ area
   area-held = ap (λ (n : ℕ). record { count = n }) held-length
@@ -103,14 +103,14 @@ module _ (rule : Rule) (own : Journal) (other : Gate) where
 
   -- passes the judge
   pub held-judged : (xs : List Numbered) → SoundHeld rule own other xs → soundArea rule own other (areaOf xs) (rowsOf xs) ≡ true
-  unfolding soundArea heldIn
+  unfolding soundArea
   held-judged xs h =
       rw (
         held-stored xs,
         le-leb (length xs) most (h .few),
         all-allOf (soundEntry rule own other) xs (all-map (SoundEntry rule own other) (λ (x : Numbered). soundEntry rule own other x ≡ true) entry-judged xs (h .sounds)),
         each-chain follows xs (each-map Later (λ (x y : Numbered). follows x y ≡ true) later-follows xs (h .laters)),
-        spare-stored heldIn rowOf places 5 held-row xs (length xs) refl isBlank refl,
+        spare-stored heldIn rowOf places width held-row xs (length xs) refl,
       )
 
   -- nothing held is sound

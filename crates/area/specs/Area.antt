@@ -1,13 +1,13 @@
 -- The area of a journal: up to 64 held entries with their ordinals, in places that the caller lends.
 use Prim.Native.Nat.{ℕ}
 use mathlib.Core.Bool.{Bool, _&&_}
-use mathlib.Core.List.{List, [], _∷_, map}
-use lib.Dec.{ltb, leb, eqb}
+use mathlib.Core.List.{List, [], _∷_}
+use lib.Dec.{ltb, leb}
 use lib.ListN.{length, drop, getD}
 use Rattle.interval.specs.Interval.{properOf}
 use Rattle.lists.specs.Judge.{allOf, chain}
 use Rattle.lists.specs.Keep.{keep}
-use Rattle.lists.specs.Store.{Rows, content, stored, Stores}
+use Rattle.lists.specs.Store.{Rows, isBlank, content, stored, Stores}
 use Rattle.pairing.specs.declared.Entry.{Entry}
 use Rattle.pairing.specs.declared.Numbered.{Numbered}
 use Rattle.pairing.specs.declared.Rule.{Rule}
@@ -18,6 +18,9 @@ use Rattle.journal.specs.Journal.{wanted, notPast}
 use Rattle.area.specs.declared.Area.{Area}
 
 -- a place holds start, end, key, value and ordinal
+abbrev pub width : ℕ
+width = 5
+
 unfoldable pub heldIn : List ℕ → Numbered
 heldIn row = record { entry = record { span = record { start = getD row 0 0; end = getD row 1 0 }; key = getD row 2 0; value = getD row 3 0 }; ordinal = getD row 4 0 }
 
@@ -36,15 +39,19 @@ places = most
 abbrev pub held : Area → Rows → List Numbered
 held area rows = content heldIn (area .count) rows
 
+-- zeros, where no entry is held
+abbrev pub noEntry : Numbered
+noEntry = heldIn []
+
 -- the area, and the one value of its places, that hold some entries. Places beyond a count hold zeros.
 abbrev pub areaOf : List Numbered → Area
 areaOf xs = record { count = length xs }
 
 abbrev pub rowsOf : List Numbered → Rows
-rowsOf xs = stored rowOf places 5 xs
+rowsOf xs = stored rowOf places width xs
 
 abbrev pub Holds : Area → Rows → Type 0
-Holds area rows = Stores heldIn rowOf places 5 (area .count) rows
+Holds area rows = Stores heldIn rowOf places width (area .count) rows
 
 -- the entries that pair with e, whichever journal it is of: to pair is the same either way round
 abbrev pub partners : Rule → Entry → List Numbered → List Numbered
@@ -63,14 +70,10 @@ soundEntry rule own other x =
 abbrev pub follows : Numbered → Numbered → Bool
 follows x y = ltb (x .ordinal) (y .ordinal) && leb (x .entry .span .start) (y .entry .span .start)
 
--- Spare places are zero.
-abbrev pub isBlank : Numbered → Bool
-isBlank x =
-    eqb (x .entry .span .start) 0 && (eqb (x .entry .span .end) 0 && (eqb (x .entry .key) 0 && (eqb (x .entry .value) 0 && eqb (x .ordinal) 0)))
-
+-- The count is within its limit, the held entries are sound and follow one another, and spare places are zero.
 unfoldable pub soundArea : Rule → Journal → Gate → Area → Rows → Bool
 soundArea rule own other area rows =
     leb (area .count) most
     && (allOf (soundEntry rule own other) (held area rows)
     && (chain follows (held area rows)
-    && allOf isBlank (map heldIn (drop (area .count) rows))))
+    && allOf isBlank (drop (area .count) rows)))

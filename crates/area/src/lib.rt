@@ -2,6 +2,7 @@
 use interval::Interval;
 use journal::Gate;
 use journal::Journal;
+use lists::is_blank;
 use pairing::Entry;
 use pairing::Numbered;
 use pairing::Rule;
@@ -9,12 +10,14 @@ ghost use mathlib.Core.Path.{_≡_};
 ghost use mathlib.Core.Bool.{true};
 ghost use mathlib.Core.List.{[], _∷_, _++_};
 ghost use Prim.Native.Nat.{_-_, _≤_, _<_};
-ghost use lib.ListN.{length, take, drop, replicate};
+ghost use lib.ListN.{length, take, drop, getD, replicate};
 ghost use Rattle.lists.specs.Judge.{allOf, chain};
-ghost use Rattle.lists.specs.Keep.{keep};
+ghost use Rattle.lists.specs.Keep.{keep, lastPlace};
+ghost use Rattle.lists.specs.Store.{isBlank};
 ghost use Rattle.lists.proofs.Array.{Shaped};
+ghost use Rattle.pairing.specs.Pair.{pairs};
 ghost use Rattle.journal.specs.Journal.{wanted};
-ghost use Rattle.area.specs.Area.{heldIn, rowOf, places, held, areaOf, rowsOf, Holds, partners, wantedBy, soundEntry, follows, isBlank, soundArea};
+ghost use Rattle.area.specs.Area.{heldIn, width, rowOf, places, held, noEntry, areaOf, rowsOf, Holds, partners, wantedBy, soundEntry, follows, soundArea};
 
 // How many of the places are taken.
 pub struct Area {
@@ -26,13 +29,15 @@ impl Area {
     pub const MOST: usize = 64;
     // How many places it has: one for each.
     pub const PLACES: usize = Area::MOST;
+    // How many numbers a place holds.
+    pub const WIDTH: usize = 5;
 }
 
 // A row is start, end, key, value and ordinal.
-pub type Places = [[u32; 5]; Area::PLACES];
+pub type Places = [[u32; Area::WIDTH]; Area::PLACES];
 
 // The entry that a row holds.
-pub fn entry_in(row: [u32; 5]) -> Numbered
+fn entry_in(row: [u32; Area::WIDTH]) -> Numbered
     ensures { λ r. ⌜ r ≡ heldIn row ⌝ }
 {
     let span = Interval {
@@ -51,7 +56,7 @@ pub fn entry_in(row: [u32; 5]) -> Numbered
 }
 
 // The row of an entry.
-fn row_of(x: Numbered) -> [u32; 5]
+fn row_of(x: Numbered) -> [u32; Area::WIDTH]
     ensures { λ r. ⌜ r ≡ rowOf x ⌝ }
 {
     [
@@ -67,7 +72,7 @@ fn row_of(x: Numbered) -> [u32; 5]
 pub fn no_places() -> Places
     ensures { λ r. ⌜ r ≡ rowsOf [] ⌝ }
 {
-    [[0u32; 5]; Area::PLACES]
+    [[0u32; Area::WIDTH]; Area::PLACES]
 }
 
 // The wanted rows moved to the front, in order; answers how many there are.
@@ -92,9 +97,9 @@ fn squeeze(rows: &mut Places, n: usize, gate: Gate) -> usize
 // Zeros in the places from one up to another.
 fn blank(rows: &mut Places, from: usize, to: usize)
     requires { ⌜ (from ≤ to) × (to ≤ places) × (length (now rows) ≡ places) ⌝ }
-    ensures { λ _. ⌜ now (rows .exit) ≡ take from (now (rows .entry)) ++ (replicate (to - from) (replicate 5 0) ++ drop to (now (rows .entry))) ⌝ }
+    ensures { λ _. ⌜ now (rows .exit) ≡ take from (now (rows .entry)) ++ (replicate (to - from) (replicate width 0) ++ drop to (now (rows .entry))) ⌝ }
 {
-    let zeros = [0u32; 5];
+    let zeros = [0u32; Area::WIDTH];
     let mut i = from;
     while i < to {
         rows[i] = zeros;
@@ -104,7 +109,7 @@ fn blank(rows: &mut Places, from: usize, to: usize)
 
 // An array behind a reference does not tell how many rows it has and how long they are; its value does, and the copy costs nothing.
 fn shaped(rows: Places)
-    ensures { λ _. ⌜ Shaped places 5 rows ⌝ }
+    ensures { λ _. ⌜ Shaped places width rows ⌝ }
 {}
 
 fn entry_sound(x: Numbered, rule: Rule, own: Journal, other: Gate) -> bool
@@ -119,13 +124,6 @@ fn followed(x: Numbered, y: Numbered) -> bool
     ensures { λ r. ⌜ r ≡ follows x y ⌝ }
 {
     x.ordinal < y.ordinal && x.entry.span.start <= y.entry.span.start
-}
-
-fn is_blank(x: Numbered) -> bool
-    ensures { λ r. ⌜ r ≡ isBlank x ⌝ }
-{
-    x.entry.span.start == 0
-        && (x.entry.span.end == 0 && (x.entry.key == 0 && (x.entry.value == 0 && x.ordinal == 0)))
 }
 
 // Is every held entry sound?
@@ -162,11 +160,11 @@ fn in_order(rows: &Places, n: usize) -> bool
 // Does every spare place hold zeros?
 fn spare_blank(rows: &Places, n: usize) -> bool
     requires { ⌜ (n ≤ places) × (length (now rows) ≡ places) ⌝ }
-    ensures { λ r. ⌜ r ≡ allOf (λ row. isBlank (heldIn row)) (drop n (now (rows .entry))) ⌝ }
+    ensures { λ r. ⌜ r ≡ allOf isBlank (drop n (now (rows .entry))) ⌝ }
 {
     let mut i = n;
     while i < Area::PLACES {
-        if !is_blank(entry_in(rows[i])) {
+        if !is_blank(&rows[i]) {
             return false;
         }
         i += 1;
@@ -204,6 +202,14 @@ impl Area {
         Area { count: kept }
     }
 
+    // The held entry at a place.
+    pub fn entry_at(self, rows: &Places, at: usize) -> Numbered
+        requires { ⌜ (at < self .count) × (self .count ≤ places) × (length (now rows) ≡ places) ⌝ }
+        ensures { λ r. ⌜ r ≡ getD (held self (now (rows .entry))) at noEntry ⌝ }
+    {
+        entry_in(rows[at])
+    }
+
     // How many held entries pair with an entry of the other journal?
     pub fn partners(self, rows: &Places, rule: Rule, e: Entry) -> usize
         requires { ⌜ (self .count ≤ places) × (length (now rows) ≡ places) ⌝ }
@@ -213,13 +219,46 @@ impl Area {
         let mut found = 0;
         let mut i = 0;
         while i < n {
-            let x = entry_in(rows[i]);
+            let x = self.entry_at(rows, i);
             if rule.pairs(e, x.entry) {
                 found += 1;
             }
             i += 1;
         }
         found
+    }
+
+    // Where the last partner of an entry of the other journal stands, among those held below a place. One of them is a partner.
+    pub fn last_partner(self, rows: &Places, below: usize, rule: Rule, e: Entry) -> usize
+        requires { ⌜ (below ≤ self .count) × (self .count ≤ places) × (length (now rows) ≡ places) × (0 < length (partners rule e (take below (held self (now rows))))) ⌝ }
+        ensures { λ r. ⌜ r ≡ lastPlace (λ x. pairs rule e (x .entry)) (take below (held self (now (rows .entry)))) ⌝ }
+    {
+        let mut i = below;
+        loop {
+            i -= 1;
+            let y = self.entry_at(rows, i);
+            if rule.pairs(e, y.entry) {
+                return i;
+            }
+        }
+    }
+
+    // How many held entries would a gate of the other journal leave?
+    pub fn left_by(self, rows: &Places, gate: Gate) -> usize
+        requires { ⌜ (self .count ≤ places) × (length (now rows) ≡ places) ⌝ }
+        ensures { λ r. ⌜ r ≡ length (wantedBy gate (held self (now (rows .entry)))) ⌝ }
+    {
+        let n = self.count;
+        let mut left = 0;
+        let mut i = 0;
+        while i < n {
+            let y = self.entry_at(rows, i);
+            if gate.wants(y.entry) {
+                left += 1;
+            }
+            i += 1;
+        }
+        left
     }
 
     // Is the state of the area sound, beside the rule, its own journal and the other's gate? Then its places store just what it holds.

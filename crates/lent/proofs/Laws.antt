@@ -1,17 +1,16 @@
 -- Laws of the two services.
-use Prim.Native.Nat.{ℕ, zero, suc, _+_, _≤_, _<_, min}
-use native.Mathlib.Nat.{zero-min, min-zero, suc-min-suc}
+use Prim.Native.Nat.{ℕ, _+_, _≤_, _<_, min}
 use mathlib.Core.Bool.{Bool, true, false, not, cond}
-use mathlib.Core.List.{List, [], _∷_, map}
+use mathlib.Core.List.{List, [], _∷_}
 use mathlib.Core.Path.{_≡_, refl, sym, ap, _∙_}
 use lib.Dec.{T as Holds}
 use lib.Ieee.Bits.{is-true, is-false}
-use lib.ListN.{length, take, getD, length-append, length-map}
+use lib.ListN.{length, take, getD, length-map}
 use lib.Seq.{take-all}
 use Rattle.interval.specs.Interval.{properOf}
 use Rattle.lists.specs.Keep.{keep}
 use Rattle.lists.specs.Store.{Rows}
-use Rattle.lists.proofs.Keep.{keep-more, keep-same, keep-bound, keep-map}
+use Rattle.lists.proofs.Keep.{kept-more, kept-same, keep-bound, keep-map}
 use Rattle.pairing.specs.declared.Entry.{Entry}
 use Rattle.pairing.specs.declared.Numbered.{Numbered}
 use Rattle.pairing.specs.declared.Rule.{Rule}
@@ -24,7 +23,8 @@ use Rattle.journal.specs.declared.Journal.{Journal}
 use Rattle.journal.specs.Answer.{unlessRefused}
 use Rattle.journal.specs.Journal.{moved, marked}
 use Rattle.area.specs.declared.Area.{Area}
-use Rattle.area.specs.Area.{heldIn, places, held, partners}
+use Rattle.area.specs.Area.{places, held, partners}
+use Rattle.area.proofs.Laws.{held-within}
 use Rattle.lent.specs.Counted.{answered, counted, entriesOf}
 
 -- ---- the count
@@ -55,10 +55,10 @@ module _ (rule : Rule) (given : Entry) (run : List Entry) where
   found i = length (keep (pairs rule given) (take i run))
 
   pub found-more : (i : ℕ) (d : Entry) → i < length run → Holds (pairs rule given (getD run i d)) → found i + 1 ≡ found (i + 1)
-  found-more i d h t = sym (ap length (keep-more (pairs rule given) run i d h (is-true _ t)) ∙ length-append (keep (pairs rule given) (take i run)) (getD run i d ∷ []))
+  found-more i d h t = kept-more (pairs rule given) run i d h (is-true _ t)
 
   pub found-same : (i : ℕ) (d : Entry) → i < length run → Holds (not (pairs rule given (getD run i d))) → found i ≡ found (i + 1)
-  found-same i d h t = ap length (sym (keep-same (pairs rule given) run i d h (is-false _ t)))
+  found-same i d h t = kept-same (pairs rule given) run i d h (is-false _ t)
 
   pub found-few : (i : ℕ) → found i ≤ i
   found-few i = keep-bound (pairs rule given) run i
@@ -74,17 +74,11 @@ counted-held rule given xs =
     let entryOf : Numbered → Entry = λ x. x .entry in
     ap (answered given) (ap length (keep-map (pairs rule given) entryOf xs) ∙ length-map (partners rule given xs) entryOf)
 
-take-min : {A : Type 0} (n : ℕ) (l : List A) → take (min n (length l)) l ≡ take n l
-take-min zero l = ap (λ (m : ℕ). take m l) (zero-min (length l))
-take-min (suc n) [] = ap (λ (m : ℕ). take m []) (min-zero (suc n))
-take-min (suc n) (x ∷ l) = ap (λ (m : ℕ). take m (x ∷ l)) (suc-min-suc n (length l)) ∙ ap (λ r. x ∷ r) (take-min n l)
-
 -- also where the area's count is beyond its places: it then holds what is in all of them
 pub counted-within : (rule : Rule) (given : Entry) (area : Area) (rows : Rows) (n : ℕ) → length rows ≡ places → n ≡ min (area .count) places
     → answered given (length (partners rule given (held (record { count = n }) rows))) ≡ counted rule given (entriesOf (held area rows))
 counted-within rule given area rows n full e =
-    let same : take n rows ≡ take (area .count) rows = ap (λ (k : ℕ). take k rows) (e ∙ ap (min (area .count)) (sym full)) ∙ take-min (area .count) rows in
-    ap (λ (l : Rows). answered given (length (partners rule given (map heldIn l)))) same ∙ sym (counted-held rule given (held area rows))
+    ap (λ (xs : List Numbered). answered given (length (partners rule given xs))) (held-within area rows n full e) ∙ sym (counted-held rule given (held area rows))
 
 -- ---- the mark
 

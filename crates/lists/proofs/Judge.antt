@@ -7,8 +7,8 @@ use mathlib.Core.Bool.{Bool, true, false, _&&_, and-assoc, and-true, and-false}
 use mathlib.Core.List.{List, [], _∷_, _++_, map}
 use mathlib.Core.Path.{_≡_, refl, sym, ap, _∙_}
 use lib.Dec.{leb}
-use lib.ListN.{length, replicate, take, getD, length-take}
-use lib.Seq.{slice, slice-cons, take-suc, drop-append-le}
+use lib.ListN.{length, replicate, take, drop, getD, length-take}
+use lib.Seq.{slice, slice-cons, take-suc, take-all, drop-append-le}
 use borrow.Author.Tests.{leb-true, leb-false}
 use Rattle.lists.specs.Judge.{allOf, chainFrom, chain}
 use Rattle.lists.proofs.All.{All, Each, all-map}
@@ -39,6 +39,14 @@ module _ {A : Type 0} where
       go : (n at : ℕ) → at + n ≡ i → at < to → allOf p (slice at to l) ≡ false
       go zero at f g = let same : i ≡ at = omega arith in rw (slice-cons at to l d g m, ← same, e)
       go (suc n) at f g = rw (slice-cons at to l d g m, go n (suc at) (omega arith) (omega arith), and-false (p (getD l at d)))
+
+  -- of all from a place on
+  pub allOf-rest : (p : A → Bool) (l : List A) (from i : ℕ) → length l ≤ i → allOf p (slice from i l) ≡ true → allOf p (drop from l) ≡ true
+  allOf-rest p l from i h e = ap (λ (t : List A). allOf p (drop from t)) (sym (take-all i l h)) ∙ e
+
+  pub allOf-rest-fails : (p : A → Bool) (l : List A) (from i : ℕ) (d : A) → from ≤ i → i < length l → p (getD l i d) ≡ false → allOf p (drop from l) ≡ false
+  allOf-rest-fails p l from i d h k e =
+      ap (λ (t : List A). allOf p (drop from t)) (sym (take-all (length l) l (omega arith))) ∙ allOf-fails p l from i (length l) d h k (omega arith) e
 
   pub allOf-all : (p : A → Bool) (xs : List A) → allOf p xs ≡ true → All (λ (x : A). p x ≡ true) xs
   allOf-all p [] e = tt

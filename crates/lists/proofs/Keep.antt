@@ -46,6 +46,13 @@ module _ {A : Type 0} (p : A → Bool) where
   pub keep-same : (l : List A) (i : ℕ) (d : A) → i < length l → p (getD l i d) ≡ false → keep p (take (i + 1) l) ≡ keep p (take i l)
   keep-same l i d h e = rw (keep-take l i d h, e) (append-nil (keep p (take i l)))
 
+  -- so there is one more, or as many as before
+  pub kept-more : (l : List A) (i : ℕ) (d : A) → i < length l → p (getD l i d) ≡ true → length (keep p (take i l)) + 1 ≡ length (keep p (take (i + 1) l))
+  kept-more l i d h e = sym (ap length (keep-more l i d h e) ∙ length-append (keep p (take i l)) (getD l i d ∷ []))
+
+  pub kept-same : (l : List A) (i : ℕ) (d : A) → i < length l → p (getD l i d) ≡ false → length (keep p (take i l)) ≡ length (keep p (take (i + 1) l))
+  kept-same l i d h e = ap length (sym (keep-same l i d h e))
+
   pub keep-length : (xs : List A) → length (keep p xs) ≤ length xs
   keep-length [] = omega arith
   keep-length (x ∷ xs) = go (p x) (keep-length xs)

@@ -2,6 +2,7 @@ pub mod Bools
 pub mod All
 pub mod FlatMap
 pub mod Keep
+pub mod Last
 pub mod Order
 pub mod Sort
 pub mod Grid
@@ -12,3 +13,4 @@ pub mod InPlace
 pub mod Merge
 pub mod First
 pub mod Put
+pub mod Unique

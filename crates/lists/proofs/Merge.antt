@@ -6,14 +6,15 @@ use mathlib.Core.Bool.{Bool, true, false, cond, true≢false}
 use mathlib.Core.List.{List, [], _∷_, _++_, append-assoc, map, map-append}
 use mathlib.Core.Logic.{inl}
 use mathlib.Core.Path.{_≡_, refl, sym, ap, _∙_}
-use lib.ListN.{length, take, drop, set, getD, length-append, length-take, length-set, take-append-drop}
-use lib.Seq.{slice, slice-cons, slice-empty, drop-cons, getD-take, take-take, take-set-le, drop-set-lt, getD-set-same, lt-length-set}
-use Rattle.lists.specs.Keep.{keep}
+use lib.ListN.{length, take, drop, set, getD, length-append, length-map, length-take, length-set, take-append-drop}
+use lib.Seq.{slice, slice-cons, slice-empty, drop-cons, getD-take, take-all, take-take, take-set-le, drop-set-lt, getD-set-same, lt-length-set}
+use Rattle.lists.specs.Keep.{keep, lastPlace}
 use Rattle.lists.specs.Sort.{insertBy, insertAllBy}
 use Rattle.lists.proofs.All.{All, all-map, all-getD, each-first, each-last}
-use Rattle.lists.proofs.Keep.{keep-more}
+use Rattle.lists.proofs.Keep.{keep-fewer}
+use Rattle.lists.proofs.Last.{keep-last}
 use Rattle.lists.proofs.Order.{StrictOrder, Apart, Ascending}
-use Rattle.lists.proofs.Sort.{insertBy-past, insertBy-length}
+use Rattle.lists.proofs.Sort.{insertBy-past}
 
 -- ---- insertion from the last one on
 
@@ -21,10 +22,6 @@ module _ {A : Type 0} (r : A → A → Bool) where
   abbrev pub insertEach : List A → List A → List A
   insertEach [] l = l
   insertEach (x ∷ xs) l = insertBy r x (insertEach xs l)
-
-  pub insertEach-length : (xs l : List A) → length (insertEach xs l) ≡ length xs + length l
-  insertEach-length [] l = omega arith
-  insertEach-length (x ∷ xs) l = omega (arith, insertEach-length xs l, insertBy-length r x (insertEach xs l))
 
   insertEach-more : (xs : List A) (y : A) (l : List A) → insertEach (xs ++ (y ∷ [])) l ≡ insertEach xs (insertBy r y l)
   insertEach-more [] y l = refl
@@ -136,78 +133,94 @@ module _ {A : Type 0} (r : A → A → Bool) (x d : A) (l₀ : List A) (w gap : 
 
 -- ---- all the new elements: f of each source element that passes the test m, the sources taken from the last down
 
--- of the first i sources, the last that passes the test stands at j
-pub record Last {A : Type 0} (m : A → Bool) (src : List A) (i : ℕ) (d : A) (j : ℕ) : Type 0 where
-  pub below : j < i
-  pub passes : m (getD src j d) ≡ true
-  pub no-other : keep m (take i src) ≡ keep m (take (j + 1) src)
+module _ {A B : Type 0} (f : A → B) (m : A → Bool) (src : List A) where
+  -- of the first i sources
+  abbrev pub newOf : ℕ → List B
+  newOf i = map f (keep m (take i src))
 
-module _ {A B : Type 0} (f : A → B) (m : A → Bool) (r : B → B → Bool) (src : List A) (n : ℕ) (l₀ : List B) (w₀ : ℕ) where
-  abbrev news : ℕ → List B
-  news i = map f (keep m (take i src))
+  abbrev pub allNew : List B
+  allNew = map f (keep m src)
 
+module _ {A B : Type 0} (f : A → B) (m : A → Bool) (r : B → B → Bool) (src : List A) (l₀ : List B) (w₀ : ℕ) where
   -- the list while the sources from i on are done: w old ones and `gap` new ones are left to place
   pub record Merging (l : List B) (i w gap : ℕ) : Type 0 where
-    pub left : gap ≡ length (news i)
+    pub left : gap ≡ length (newOf f m src i)
     pub few : w ≤ w₀
-    pub small : i ≤ n
+    pub small : i ≤ length src
     pub long : length l ≡ length l₀
     pub front : take w l ≡ take w l₀
-    pub ordered : Ascending r (news i)
-    pub rest : insertEach r (news i) (take w l₀) ++ drop (w + gap) l ≡ insertEach r (news n) (take w₀ l₀) ++ drop (w₀ + length (news n)) l₀
+    pub ordered : Ascending r (newOf f m src i)
+    pub rest : insertEach r (newOf f m src i) (take w l₀) ++ drop (w + gap) l ≡ insertEach r (allNew f m src) (take w₀ l₀) ++ drop (w₀ + length (allNew f m src)) l₀
 
-module _ {A B : Type 0} (f : A → B) (m : A → Bool) (r : B → B → Bool) (strict : StrictOrder r) (src : List A) (n : ℕ) (inside : n ≤ length src) (l₀ : List B) (w₀ : ℕ) where
+module _ {A B : Type 0} (f : A → B) (m : A → Bool) (r : B → B → Bool) (strict : StrictOrder r) (src : List A) (l₀ : List B) (w₀ : ℕ) where
   abbrev new : ℕ → List B
-  new i = map f (keep m (take i src))
+  new = newOf f m src
+
+  abbrev all : List B
+  all = allNew f m src
 
   abbrev At : List B → ℕ → ℕ → ℕ → Type 0
-  At = Merging f m r src n l₀ w₀
+  At = Merging f m r src l₀ w₀
 
-  pub merge-start : Ascending r (new n) → (gap : ℕ) → gap ≡ length (new n) → At l₀ n w₀ gap
-  merge-start a gap e = record {
-    left = e;
-    few = omega arith;
-    small = omega arith;
-    long = refl;
-    front = refl;
-    ordered = a;
-    rest = ap (λ (k : ℕ). insertEach r (new n) (take w₀ l₀) ++ drop (w₀ + k) l₀) e;
-  }
+  pub merge-start : Ascending r all → (n gap : ℕ) → n ≡ length src → gap ≡ length all → At l₀ n w₀ gap
+  merge-start a n gap e g =
+      let whole : new n ≡ all = ap (λ (t : List A). map f (keep m t)) (take-all n src (omega arith)) in
+      record {
+        left = g ∙ ap length (sym whole);
+        few = omega arith;
+        small = omega arith;
+        long = refl;
+        front = refl;
+        ordered = rw whole a;
+        rest = ap (λ (t : List B). insertEach r t (take w₀ l₀) ++ drop (w₀ + gap) l₀) whole ∙ ap (λ (k : ℕ). insertEach r all (take w₀ l₀) ++ drop (w₀ + k) l₀) g;
+      }
 
   module _ (l : List B) (i w gap : ℕ) (s : At l i w gap) where
-    module _ (d : A) (j : ℕ) (last : Last m src i d j) where
-      new-more : new i ≡ new j ++ (f (getD src j d) ∷ [])
-      new-more = ap (map f) (last .no-other ∙ keep-more m src j d (omega (arith, s .small, last .below)) (last .passes)) ∙ map-append f (keep m (take j src)) (getD src j d ∷ [])
+    -- no more are left than there were
+    pub merge-few : gap ≤ length all
+    merge-few = omega (arith, s .left, length-map (keep m (take i src)) f, length-map (keep m src) f, keep-fewer m src i (length src) (s .small), ap (λ (t : List A). length (keep m t)) (take-all (length src) src (omega arith)))
 
-      pub merge-more : 0 < gap → (l′ : List B) (w′ : ℕ) → Slid r (f (getD src j d)) l w gap w′ l′ → At l′ j w′ (gap - 1)
-      merge-more some l′ w′ slid =
-          let x = f (getD src j d) in
-          let e = new-more in
-          let low : take w′ (take w l₀) ≡ take w′ l₀ = take-take w′ w l₀ (slid .at-most) in
-          let same : take w′ l ≡ take w′ l₀ = sym (take-take w′ w l (slid .at-most)) ∙ ap (take w′) (s .front) ∙ low in
-          let cut : insertBy r x (take w l₀) ≡ take w′ l₀ ++ (x ∷ slice w′ w l) = ap (insertBy r x) (sym (s .front)) ∙ slid .placed ∙ ap (λ (t : List B). t ++ (x ∷ slice w′ w l)) same in
-          let ordered : Ascending r (new j ++ (x ∷ [])) = rw e at (s .ordered) in
-          let lined : w′ + (gap - 1) ≡ w′ + gap - 1 = omega arith in
-          record {
-            left = omega (arith, s .left, ap length e, length-append (new j) (x ∷ []));
-            few = omega (arith, s .few, slid .at-most);
-            small = omega (arith, s .small, last .below);
-            long = slid .long ∙ s .long;
-            front = slid .front ∙ same;
-            ordered = each-first (λ (p q : B). r p q ≡ true) (new j) (x ∷ []) ordered;
-            rest = ap (λ (k : ℕ). insertEach r (new j) (take w′ l₀) ++ drop k l′) lined
-                ∙ ap (λ (t : List B). insertEach r (new j) (take w′ l₀) ++ t) (slid .back)
-                ∙ sym (append-assoc (insertEach r (new j) (take w′ l₀)) (x ∷ slice w′ w l) (drop (w + gap) l))
-                ∙ ap (λ (t : List B). t ++ drop (w + gap) l)
-                (sym (insertEach-front r (new j) x (take w′ l₀) (slice w′ w l) (each-last (λ (p q : B). r p q ≡ true) (new j) x ordered))
-                ∙ ap (insertEach r (new j)) (sym cut)
-                ∙ sym (insertEach-more r (new j) x (take w l₀))
-                ∙ ap (λ (ps : List B). insertEach r ps (take w l₀)) (sym e))
-                ∙ s .rest;
-          }
+    module _ (some : 0 < gap) where
+      pub one-passes : 0 < length (keep m (take i src))
+      one-passes = omega (arith, s .left, length-map (keep m (take i src)) f)
+
+      -- the last source that passes stands at j
+      module _ (d : A) (j : ℕ) (last : j ≡ lastPlace m (take i src)) where
+        pub last-below : j < i
+        last-below = keep-last m src i d j one-passes last .0
+
+        new-more : new i ≡ new j ++ (f (getD src j d) ∷ [])
+        new-more = ap (map f) (keep-last m src i d j one-passes last .1) ∙ map-append f (keep m (take j src)) (getD src j d ∷ [])
+
+        pub merge-more : (l′ : List B) (w′ : ℕ) → Slid r (f (getD src j d)) l w gap w′ l′ → At l′ j w′ (gap - 1)
+        merge-more l′ w′ slid =
+            let x = f (getD src j d) in
+            let e = new-more in
+            let low : take w′ (take w l₀) ≡ take w′ l₀ = take-take w′ w l₀ (slid .at-most) in
+            let same : take w′ l ≡ take w′ l₀ = sym (take-take w′ w l (slid .at-most)) ∙ ap (take w′) (s .front) ∙ low in
+            let cut : insertBy r x (take w l₀) ≡ take w′ l₀ ++ (x ∷ slice w′ w l) = ap (insertBy r x) (sym (s .front)) ∙ slid .placed ∙ ap (λ (t : List B). t ++ (x ∷ slice w′ w l)) same in
+            let ordered : Ascending r (new j ++ (x ∷ [])) = rw e at (s .ordered) in
+            let lined : w′ + (gap - 1) ≡ w′ + gap - 1 = omega arith in
+            record {
+              left = omega (arith, s .left, ap length e, length-append (new j) (x ∷ []));
+              few = omega (arith, s .few, slid .at-most);
+              small = omega (arith, s .small, last-below);
+              long = slid .long ∙ s .long;
+              front = slid .front ∙ same;
+              ordered = each-first (λ (p q : B). r p q ≡ true) (new j) (x ∷ []) ordered;
+              rest = ap (λ (k : ℕ). insertEach r (new j) (take w′ l₀) ++ drop k l′) lined
+                  ∙ ap (λ (t : List B). insertEach r (new j) (take w′ l₀) ++ t) (slid .back)
+                  ∙ sym (append-assoc (insertEach r (new j) (take w′ l₀)) (x ∷ slice w′ w l) (drop (w + gap) l))
+                  ∙ ap (λ (t : List B). t ++ drop (w + gap) l)
+                  (sym (insertEach-front r (new j) x (take w′ l₀) (slice w′ w l) (each-last (λ (p q : B). r p q ≡ true) (new j) x ordered))
+                  ∙ ap (insertEach r (new j)) (sym cut)
+                  ∙ sym (insertEach-more r (new j) x (take w l₀))
+                  ∙ ap (λ (ps : List B). insertEach r ps (take w l₀)) (sym e))
+                  ∙ s .rest;
+            }
 
     -- nothing is left to place
-    pub merge-end : Ascending r (new n) → gap ≡ 0 → l ≡ insertAllBy r (new n) (take w₀ l₀) ++ drop (w₀ + length (new n)) l₀
+    pub merge-end : Ascending r all → gap ≡ 0 → l ≡ insertAllBy r all (take w₀ l₀) ++ drop (w₀ + length all) l₀
     merge-end a z =
         let none : new i ≡ [] = nothing (new i) (sym (s .left) ∙ z) in
         let flat : w + gap ≡ w = omega arith in
@@ -216,7 +229,7 @@ module _ {A B : Type 0} (f : A → B) (m : A → Bool) (r : B → B → Bool) (s
         ∙ ap (λ (k : ℕ). take w l₀ ++ drop k l) (sym flat)
         ∙ ap (λ (ps : List B). insertEach r ps (take w l₀) ++ drop (w + gap) l) (sym none)
         ∙ s .rest
-        ∙ ap (λ (t : List B). t ++ drop (w₀ + length (new n)) l₀) (insertEach-all r strict (new n) (take w₀ l₀) a)
+        ∙ ap (λ (t : List B). t ++ drop (w₀ + length all) l₀) (insertEach-all r strict all (take w₀ l₀) a)
       where
         nothing : (ps : List B) → length ps ≡ 0 → ps ≡ []
         nothing [] e = refl

@@ -4,14 +4,16 @@ use native.Mathlib.Omega.{arith}
 use mathlib.Core.Bool.{Bool, true}
 use mathlib.Core.List.{List, [], _∷_, _++_, append-assoc, map, map-append}
 use mathlib.Core.Path.{_≡_, refl, sym, ap, _∙_}
-use lib.ListN.{length, replicate, take, drop, set, getD, length-append, length-replicate, length-map, length-take, length-drop, take-append-drop}
-use lib.Seq.{set-append-seam, take-at, drop-at}
+use lib.Dec.{eqb}
+use lib.ListN.{length, replicate, take, drop, set, getD, length-append, length-replicate, length-map, length-take, length-drop, take-append-drop, List·getD-map}
+use lib.Seq.{set-append-seam, take-at, drop-at, getD-take}
+use borrow.Author.Tests.{eqb-true}
 use Rattle.lists.specs.Judge.{allOf}
 use Rattle.lists.specs.Keep.{keep}
-use Rattle.lists.specs.Store.{padTo, Rows, content, stored, Stores}
+use Rattle.lists.specs.Store.{padTo, Rows, isBlank, content, stored, Stores}
 use Rattle.lists.proofs.All.{All, all-map, all-map₂, all-take, all-drop, all-replicate}
 use Rattle.lists.proofs.Array.{Shaped}
-use Rattle.lists.proofs.Judge.{allOf-all, allOf-map, allOf-replicate}
+use Rattle.lists.proofs.Judge.{allOf-all, allOf-replicate}
 use Rattle.lists.proofs.Keep.{keep-map, keep-same-test}
 
 module _ {A : Type 0} (k : ℕ) (z : A) where
@@ -46,6 +48,14 @@ module _ {A : Type 0} (k : ℕ) (z : A) where
       let m : k - n ≡ k - length (take n l) = simp length-take (omega arith) in
       sym (take-append-drop n l) ∙ ap (λ (t : List A). take n l ++ t) (e ∙ ap (λ (j : ℕ). replicate j z) m)
 
+-- a blank row of a width is that many zeros
+blank-row : (width : ℕ) (row : List ℕ) → length row ≡ width → isBlank row ≡ true → row ≡ replicate width 0
+blank-row width row long e =
+    all-replicate 0 row (all-map (λ (n : ℕ). eqb n 0 ≡ true) (λ (n : ℕ). n ≡ 0) (λ n z. eqb-true n 0 z) row (allOf-all (λ (n : ℕ). eqb n 0) row e)) ∙ ap (λ (m : ℕ). replicate m 0) long
+
+zeros-blank : (width : ℕ) → isBlank (replicate width 0) ≡ true
+zeros-blank width = allOf-replicate (λ (n : ℕ). eqb n 0) width 0 refl
+
 map-read : {A B : Type 0} (read : B → A) (write : A → B) → ((x : A) → read (write x) ≡ x) → (xs : List A) → map read (map write xs) ≡ xs
 map-read read write back [] = refl
 map-read read write back (x ∷ xs) = rw (back x, map-read read write back xs)
@@ -54,6 +64,14 @@ map-read read write back (x ∷ xs) = rw (back x, map-read read write back xs)
 pub map-write : {A B : Type 0} (read : B → A) (write : A → B) (rows : List B) → All (λ (row : B). write (read row) ≡ row) rows → map write (map read rows) ≡ rows
 map-write read write [] h = refl
 map-write read write (row ∷ rows) h = rw (h .0, map-write read write rows (h .1))
+
+module _ {A : Type 0} (read : List ℕ → A) (n : ℕ) (places : Rows) where
+  pub content-long : n ≤ length places → length (content read n places) ≡ n
+  content-long h = simp (length-map, length-take) (omega arith)
+
+  -- what stands at a place
+  pub content-at : (i : ℕ) → i < n → getD (content read n places) i (read []) ≡ read (getD places i [])
+  content-at i h = List·getD-map read (take n places) i [] ∙ ap read (getD-take n places i [] h)
 
 module _ {A : Type 0} (read : List ℕ → A) (write : A → List ℕ) (k width : ℕ) where
   module _ (n : ℕ) (places : Rows) (s : Stores read write k width n places) where
@@ -66,7 +84,7 @@ module _ {A : Type 0} (read : List ℕ → A) (write : A → List ℕ) (k width 
         ap length (s .same) ∙ padTo-length k (replicate width 0) (map write held) few
 
     pub content-length : length held ≡ n
-    content-length = simp (length-map, length-take) (omega (arith, s .few, stores-length))
+    content-length = content-long read n places (omega (arith, s .few, stores-length))
 
     rows-length : length (map write held) ≡ n
     rows-length = length-map held write ∙ content-length
@@ -101,11 +119,9 @@ module _ {A : Type 0} (read : List ℕ → A) (write : A → List ℕ) (k width 
     stores-stored h = record { few = h; same = ap (stored write k width) (sym content-stored) }
 
     -- and beyond it stand blanks
-    pub spare-stored : (isBlank : A → Bool) → isBlank (read (replicate width 0)) ≡ true → allOf isBlank (map read (drop n (stored write k width xs))) ≡ true
-    spare-stored isBlank blank =
-        ap (λ (l : Rows). allOf isBlank (map read l)) (padTo-drop k (replicate width 0) (map write xs) n (length-map xs write ∙ e))
-        ∙ allOf-map read isBlank (replicate (k - n) (replicate width 0))
-        ∙ allOf-replicate (λ (row : List ℕ). isBlank (read row)) (k - n) (replicate width 0) blank
+    pub spare-stored : allOf isBlank (drop n (stored write k width xs)) ≡ true
+    spare-stored =
+        ap (allOf isBlank) (padTo-drop k (replicate width 0) (map write xs) n (length-map xs write ∙ e)) ∙ allOf-replicate isBlank (k - n) (replicate width 0) (zeros-blank width)
 
 -- ---- rows of a given width
 
@@ -130,15 +146,13 @@ row-listed (suc width) (x ∷ row) e = ap {B = List ℕ} (λ l. x ∷ l) (row-li
     shorter : (m n : ℕ) → suc m ≡ suc n → m ≡ n
     shorter m n e = omega arith
 
--- places of the right shape whose spare rows hold blanks store what the others hold
-pub stores-judged : {A : Type 0} (read : List ℕ → A) (write : A → List ℕ) (k width : ℕ) (isBlank : A → Bool) → ((row : List ℕ) → length row ≡ width → write (read row) ≡ row)
-    → ((row : List ℕ) → length row ≡ width → isBlank (read row) ≡ true → row ≡ replicate width 0)
-    → (n : ℕ) (places : Rows) → Shaped k width places → n ≤ k → allOf isBlank (map read (drop n places)) ≡ true → Stores read write k width n places
-stores-judged read write k width isBlank whole zeros n places shaped few spare =
+-- places of the right shape whose spare rows are blank store what the others hold
+pub stores-judged : {A : Type 0} (read : List ℕ → A) (write : A → List ℕ) (k width : ℕ) → ((row : List ℕ) → length row ≡ width → write (read row) ≡ row)
+    → (n : ℕ) (places : Rows) → Shaped k width places → n ≤ k → allOf isBlank (drop n places) ≡ true → Stores read write k width n places
+stores-judged read write k width whole n places shaped few spare =
     let wide : List ℕ → Type 0 = λ row. length row ≡ width in
-    let blanks = allOf-all (λ (row : List ℕ). isBlank (read row)) (drop n places) (sym (allOf-map read isBlank (drop n places)) ∙ spare) in
     let rest = all-replicate (replicate width 0) (drop n places)
-    (all-map₂ wide (λ (row : List ℕ). isBlank (read row) ≡ true) (λ (row : List ℕ). row ≡ replicate width 0) zeros (drop n places) (all-drop wide n places (shaped .wide)) blanks) in
+    (all-map₂ wide (λ (row : List ℕ). isBlank row ≡ true) (λ (row : List ℕ). row ≡ replicate width 0) (blank-row width) (drop n places) (all-drop wide n places (shaped .wide)) (allOf-all isBlank (drop n places) spare)) in
     let gap : length (drop n places) ≡ k - n = length-drop n places ∙ ap (λ (m : ℕ). m - n) (shaped .full) in
     record {
       few = few;

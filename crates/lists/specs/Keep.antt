@@ -1,7 +1,9 @@
--- The elements of a list that pass a test, and how many do.
+-- The elements of a list that pass a test, how many do, and where the last of them stands.
 use Prim.Native.Nat.{ℕ, suc}
 use mathlib.Core.Bool.{Bool, cond}
 use mathlib.Core.List.{List, [], _∷_}
+use lib.Dec.{ltb}
+use lib.ListN.{length}
 
 module _ {A : Type 0} where
   -- the elements that pass the test, in their order
@@ -13,3 +15,8 @@ module _ {A : Type 0} where
   abbrev pub tally : (A → Bool) → List A → ℕ
   tally p [] = 0
   tally p (x ∷ xs) = cond (p x) (suc (tally p xs)) (tally p xs)
+
+  -- where the last element that passes the test stands, if one does
+  abbrev pub lastPlace : (A → Bool) → List A → ℕ
+  lastPlace p [] = 0
+  lastPlace p (x ∷ xs) = cond (ltb 0 (length (keep p xs))) (suc (lastPlace p xs)) 0

@@ -5,62 +5,39 @@ use mathlib.Core.Bool.{Bool, true, false, cond, _&&_}
 use mathlib.Core.List.{List, [], _∷_, _++_, map}
 use mathlib.Core.Logic.{_⊎_, inl, inr}
 use mathlib.Core.Path.{_≡_, refl, sym, ap, _∙_}
-use lib.Dec.{leb, eqb}
-use lib.ListN.{length, replicate, take, drop, getD, length-map, length-drop, drop-of-length-le, List·getD-map}
-use lib.Seq.{slice, length-take-le, getD-take}
-use borrow.Author.Tests.{leb-true, eqb-true}
+use lib.Dec.{leb}
+use lib.ListN.{length, replicate, take, drop, getD, length-map, length-drop, drop-of-length-le}
+use lib.Seq.{slice, length-take-le}
+use borrow.Author.Tests.{leb-true}
 use Rattle.lists.specs.Judge.{allOf, chain}
 use Rattle.lists.specs.Keep.{keep}
 use Rattle.lists.specs.Sort.{insertBy, insertAllBy}
-use Rattle.lists.specs.Store.{padTo, Rows}
+use Rattle.lists.specs.Store.{padTo, Rows, isBlank}
 use Rattle.lists.proofs.All.{All, each-map, each-mapped}
 use Rattle.lists.proofs.Array.{Shaped}
 use Rattle.lists.proofs.Bools.{and-left, and-right}
 use Rattle.lists.proofs.First.{Down, fails-on, keep-first}
 use Rattle.lists.proofs.InPlace.{moved-padded, padded-over}
 use Rattle.lists.proofs.Judge.{allOf-all, allOf-map, chain-map, chain-each}
-use Rattle.lists.proofs.Keep.{keep-map}
 use Rattle.lists.proofs.Order.{StrictOrder, Ascending}
 use Rattle.lists.proofs.Sort.{insertAllBy-length}
-use Rattle.lists.proofs.Store.{stores-length, stores-rows, stores-rest, content-length, stores-judged}
+use Rattle.lists.proofs.Store.{content-at, stores-length, stores-rows, stores-rest, content-length, stores-judged}
 use Rattle.pairing.specs.declared.Pair.{Pair}
-use Rattle.pairing.specs.declared.Partner.{Partner}
 use Rattle.pairing.specs.declared.Numbered.{Numbered}
 use Rattle.pairing.specs.declared.Rule.{Rule}
 use Rattle.pairing.specs.declared.Side.{Side}
-use Rattle.pairing.specs.Pair.{pairs, comesBefore}
+use Rattle.pairing.specs.Pair.{comesBefore}
 use Rattle.pairing.specs.Side.{pairFrom, newPairs}
 use Rattle.pairing.specs.Numbers.{pairIn, pairNumbers}
 use Rattle.pairing.proofs.Arrival.{pairing, newPairs-map}
 use Rattle.pairing.proofs.Pairs.{strict-comesBefore, before-start}
 use Rattle.pairing.proofs.Numbers.{pair-numbers, numbers-pair}
-use Rattle.area.specs.Area.{heldIn}
 use Rattle.journal.specs.declared.Gate.{Gate}
 use Rattle.journal.proofs.Due.{due-down}
 use Rattle.queue.specs.declared.Queue.{Queue}
-use Rattle.queue.specs.Queue.{places, waiting, queueOf, rowsOf, Holds, ready, soundPair, isZero, isBlank, soundQueue}
+use Rattle.queue.specs.Queue.{places, width, waiting, queueOf, rowsOf, Holds, ready, soundPair, soundQueue}
 
 -- ---- rows
-
-zero-partner : (x : Partner) → isZero x ≡ true → x ≡ record { ordinal = 0; key = 0; value = 0 }
-zero-partner x e =
-    let rest = and-right (eqb (x .ordinal) 0) _ e in
-    let a = eqb-true (x .ordinal) 0 (and-left _ _ e) in
-    let b = eqb-true (x .key) 0 (and-left _ _ rest) in
-    let c = eqb-true (x .value) 0 (and-right (eqb (x .key) 0) _ rest) in
-    λ i. record { ordinal = a i; key = b i; value = c i }
-
-blank-row : (row : List ℕ) → length row ≡ 8 → isBlank (pairIn row) ≡ true → row ≡ replicate 8 0
-unfolding pairNumbers
-blank-row row long e =
-    let p = pairIn row in
-    let e1 = and-right (eqb (p .meeting .start) 0) _ e in
-    let e2 = and-right (eqb (p .meeting .end) 0) _ e1 in
-    let start = eqb-true (p .meeting .start) 0 (and-left _ _ e) in
-    let end = eqb-true (p .meeting .end) 0 (and-left _ _ e1) in
-    let a = zero-partner (p .a) (and-left _ _ e2) in
-    let b = zero-partner (p .b) (and-right (isZero (p .a)) _ e2) in
-    sym (numbers-pair row long) ∙ (λ i. pairNumbers (record { meeting = record { start = start i; end = end i }; a = a i; b = b i }))
 
 -- the order of rows is that of the pairs in them
 abbrev pub rowBefore : List ℕ → List ℕ → Bool
@@ -74,31 +51,22 @@ strict-rowBefore = record {
 
 -- ---- the rows of the new pairs
 
--- does the entry in a row pair with x?
-abbrev pub meets : Rule → Numbered → List ℕ → Bool
-meets rule x row = pairs rule (x .entry) (heldIn row .entry)
-
--- the row of their pair
-abbrev pub newRow : Side → Numbered → List ℕ → List ℕ
-newRow side x row = pairNumbers (pairFrom side x (heldIn row))
+-- the row of the pair of x with an entry of the other journal
+abbrev pub newRow : Side → Numbered → Numbered → List ℕ
+newRow side x y = pairNumbers (pairFrom side x y)
 
 map-map : {A B C : Type 0} (g : B → C) (f : A → B) (xs : List A) → map g (map f xs) ≡ map (λ (x : A). g (f x)) xs
 map-map g f [] = refl
 map-map {A} {B} {C} g f (x ∷ xs) = ap {B = List C} (λ l. g (f x) ∷ l) (map-map g f xs)
 
-pub new-rows : (rule : Rule) (side : Side) (x : Numbered) (rows : Rows) → map (newRow side x) (keep (meets rule x) rows) ≡ map pairNumbers (newPairs rule side x (map heldIn rows))
-new-rows rule side x rows =
-    sym (ap (map pairNumbers)
-    (newPairs-map rule side x (map heldIn rows)
-    ∙ ap (map (pairFrom side x)) (keep-map (pairing rule x) heldIn rows)
-    ∙ map-map (pairFrom side x) heldIn (keep (meets rule x) rows))
-    ∙ map-map pairNumbers (λ (row : List ℕ). pairFrom side x (heldIn row)) (keep (meets rule x) rows))
+pub new-rows : (rule : Rule) (side : Side) (x : Numbered) (others : List Numbered) → map (newRow side x) (keep (pairing rule x) others) ≡ map pairNumbers (newPairs rule side x others)
+new-rows rule side x others = sym (ap (map pairNumbers) (newPairs-map rule side x others) ∙ map-map pairNumbers (pairFrom side x) (keep (pairing rule x) others))
 
-pub new-ascending : (rule : Rule) (side : Side) (x : Numbered) (rows : Rows) → chain comesBefore (newPairs rule side x (map heldIn rows)) ≡ true → Ascending rowBefore (map (newRow side x) (keep (meets rule x) rows))
-new-ascending rule side x rows sorted =
-    rw (new-rows rule side x rows)
+pub new-ascending : (rule : Rule) (side : Side) (x : Numbered) (others : List Numbered) → chain comesBefore (newPairs rule side x others) ≡ true → Ascending rowBefore (map (newRow side x) (keep (pairing rule x) others))
+new-ascending rule side x others sorted =
+    rw (new-rows rule side x others)
     (each-mapped pairNumbers (λ (p q : Pair). comesBefore p q ≡ true) (λ (a b : List ℕ). rowBefore a b ≡ true) (λ p q e. ap (λ (y : Pair). comesBefore y (pairIn (pairNumbers q))) (pair-numbers p) ∙ ap (comesBefore p) (pair-numbers q) ∙ e)
-    (newPairs rule side x (map heldIn rows)) (chain-each comesBefore (strict-comesBefore .trans) (newPairs rule side x (map heldIn rows)) sorted))
+    (newPairs rule side x others) (chain-each comesBefore (strict-comesBefore .trans) (newPairs rule side x others) sorted))
 
 -- ---- the judge
 
@@ -106,18 +74,18 @@ pub sound-rows : (ofA ofB : ℕ) (queue : Queue) (rows : Rows)
     → soundQueue ofA ofB queue rows
     ≡ leb (queue .count) places
     && (allOf (λ (row : List ℕ). soundPair ofA ofB (pairIn row)) (take (queue .count) rows)
-    && (chain rowBefore (take (queue .count) rows) && allOf (λ (row : List ℕ). isBlank (pairIn row)) (drop (queue .count) rows)))
+    && (chain rowBefore (take (queue .count) rows) && allOf isBlank (drop (queue .count) rows)))
 unfolding soundQueue
 sound-rows ofA ofB queue rows =
-    rw (allOf-map pairIn (soundPair ofA ofB) (take (queue .count) rows), chain-map pairIn comesBefore (take (queue .count) rows), allOf-map pairIn isBlank (drop (queue .count) rows))
+    rw (allOf-map pairIn (soundPair ofA ofB) (take (queue .count) rows), chain-map pairIn comesBefore (take (queue .count) rows))
 
 -- the places of a sound queue store the waiting pairs
-pub sound-holds : (ofA ofB : ℕ) (queue : Queue) (rows : Rows) → Shaped places 8 rows → soundQueue ofA ofB queue rows ≡ true → Holds queue rows
+pub sound-holds : (ofA ofB : ℕ) (queue : Queue) (rows : Rows) → Shaped places width rows → soundQueue ofA ofB queue rows ≡ true → Holds queue rows
 unfolding soundQueue
 sound-holds ofA ofB queue rows shaped e =
     let rest = and-right (leb (queue .count) places) _ e in
     let spare = and-right (chain comesBefore (waiting queue rows)) _ (and-right (allOf (soundPair ofA ofB) (waiting queue rows)) _ rest) in
-    stores-judged pairIn pairNumbers places 8 isBlank numbers-pair blank-row (queue .count) rows shaped (leb-true (queue .count) places (and-left _ _ e)) spare
+    stores-judged pairIn pairNumbers places width numbers-pair (queue .count) rows shaped (leb-true (queue .count) places (and-left _ _ e)) spare
 
 -- which are in order
 pub sound-in-order : (ofA ofB : ℕ) (queue : Queue) (rows : Rows) → soundQueue ofA ofB queue rows ≡ true → chain comesBefore (waiting queue rows) ≡ true
@@ -131,10 +99,10 @@ ready-down = due-down (λ (p : Pair). p .meeting .start) comesBefore before-star
 
 module _ (queue : Queue) (rows : Rows) (h : Holds queue rows) where
   pub holds-length : length rows ≡ places
-  holds-length = stores-length pairIn pairNumbers places 8 (queue .count) rows h
+  holds-length = stores-length pairIn pairNumbers places width (queue .count) rows h
 
   waiting-length : length (waiting queue rows) ≡ queue .count
-  waiting-length = content-length pairIn pairNumbers places 8 (queue .count) rows h
+  waiting-length = content-length pairIn pairNumbers places width (queue .count) rows h
 
   -- neighbours in order are all in order
   pub ascending-rows : chain comesBefore (waiting queue rows) ≡ true → Ascending rowBefore (take (queue .count) rows)
@@ -151,13 +119,13 @@ module _ (queue : Queue) (rows : Rows) (h : Holds queue rows) where
   map-drop (suc k) (p ∷ ps) = map-drop k ps
 
   pub dropped : (k : ℕ) (moved left : Rows) → k ≤ queue .count → moved ≡ slice k (queue .count) rows ++ drop (queue .count - k) rows
-      → left ≡ take (queue .count - k) moved ++ (replicate (queue .count - (queue .count - k)) (replicate 8 0) ++ drop (queue .count) moved)
+      → left ≡ take (queue .count - k) moved ++ (replicate (queue .count - (queue .count - k)) (replicate width 0) ++ drop (queue .count) moved)
       → (record { count = queue .count - k } ≡ queueOf (drop k (waiting queue rows))) × (left ≡ rowsOf (drop k (waiting queue rows)))
   dropped k moved left less e f =
       let n : queue .count - k ≡ length (drop k (waiting queue rows)) = sym (length-drop k (waiting queue rows) ∙ ap (λ (m : ℕ). m - k) waiting-length) in (
         ap (λ (m : ℕ). record { count = m }) n,
-        moved-padded places (queue .count) k (replicate 8 0) rows moved left holds-length (h .few) less (stores-rest pairIn pairNumbers places 8 (queue .count) rows h) e f
-            ∙ ap (padTo places (replicate 8 0)) (ap (drop k) (stores-rows pairIn pairNumbers places 8 (queue .count) rows h) ∙ sym (map-drop k (waiting queue rows))),
+        moved-padded places (queue .count) k (replicate width 0) rows moved left holds-length (h .few) less (stores-rest pairIn pairNumbers places width (queue .count) rows h) e f
+            ∙ ap (padTo places (replicate width 0)) (ap (drop k) (stores-rows pairIn pairNumbers places width (queue .count) rows h) ∙ sym (map-drop k (waiting queue rows))),
       )
 
   pub dropped-none : (queue ≡ queueOf (drop 0 (waiting queue rows))) × (rows ≡ rowsOf (drop 0 (waiting queue rows)))
@@ -192,7 +160,7 @@ module _ (queue : Queue) (rows : Rows) (h : Holds queue rows) where
       rest (inr (l, e)) =
           fails-on (ready a b) (waiting queue rows) k (pairIn []) (omega (arith, waiting-length))
           (each-map (λ (p q : Pair). comesBefore p q ≡ true) (Down (ready a b)) (ready-down a b) (waiting queue rows) (ascending-waiting sorted))
-          (ap (ready a b) (List·getD-map pairIn (take (queue .count) rows) k [] ∙ ap pairIn (getD-take (queue .count) rows k [] l)) ∙ e)
+          (ap (ready a b) (content-at pairIn (queue .count) rows k l) ∙ e)
 
   -- ---- the new pairs merged
 
@@ -218,10 +186,10 @@ module _ (queue : Queue) (rows : Rows) (h : Holds queue rows) where
       let m : queue .count + length (map pairNumbers new) ≡ queue .count + length new = ap (λ (k : ℕ). queue .count + k) (length-map new pairNumbers) in
       let long : length (map pairNumbers all) ≡ queue .count + length new = length-map all pairNumbers ∙ insertAllBy-length comesBefore new (waiting queue rows) ∙ omega (arith, waiting-length) in
       e
-      ∙ ap (λ (l : Rows). insertAllBy rowBefore (map pairNumbers new) l ++ drop (queue .count + length (map pairNumbers new)) rows) (stores-rows pairIn pairNumbers places 8 (queue .count) rows h)
+      ∙ ap (λ (l : Rows). insertAllBy rowBefore (map pairNumbers new) l ++ drop (queue .count + length (map pairNumbers new)) rows) (stores-rows pairIn pairNumbers places width (queue .count) rows h)
       ∙ ap (λ (l : Rows). l ++ drop (queue .count + length (map pairNumbers new)) rows) (insertAll-rows new (waiting queue rows))
       ∙ ap (λ (k : ℕ). map pairNumbers all ++ drop k rows) m
-      ∙ padded-over places (queue .count) (queue .count + length new) (replicate 8 0) rows (map pairNumbers all) (stores-rest pairIn pairNumbers places 8 (queue .count) rows h) (omega arith) room long
+      ∙ padded-over places (queue .count) (queue .count + length new) (replicate width 0) rows (map pairNumbers all) (stores-rest pairIn pairNumbers places width (queue .count) rows h) (omega arith) room long
 
   pub merged-count : (new : List Pair) → record { count = queue .count + length new } ≡ queueOf (insertAllBy comesBefore new (waiting queue rows))
   merged-count new =

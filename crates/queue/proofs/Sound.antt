@@ -30,21 +30,21 @@ use Rattle.pairing.proofs.Numbers.{pair-numbers}
 use Rattle.pairing.proofs.Arrival.{Later, newPairs-ascending, ownIn, otherIn, apart-own, pairFrom-own, pairFrom-other, pairFrom-proper, all-newPairs}
 use Rattle.pairing.proofs.Pairs.{strict-comesBefore}
 use Rattle.queue.specs.declared.Queue.{Queue}
-use Rattle.queue.specs.Queue.{places, waiting, queueOf, rowsOf, Holds, soundPair, isBlank, soundQueue}
+use Rattle.queue.specs.Queue.{places, width, waiting, queueOf, rowsOf, Holds, soundPair, soundQueue}
 
 -- ---- the queue that stores some pairs
 
 -- they wait in it
 pub waiting-stored : (ps : List Pair) → waiting (queueOf ps) (rowsOf ps) ≡ ps
-waiting-stored ps = content-stored pairIn pairNumbers places 8 pair-numbers ps (length ps) refl
+waiting-stored ps = content-stored pairIn pairNumbers places width pair-numbers ps (length ps) refl
 
 pub holds-stored : (ps : List Pair) → length ps ≤ places → Holds (queueOf ps) (rowsOf ps)
-holds-stored ps h = stores-stored pairIn pairNumbers places 8 pair-numbers ps (length ps) refl h
+holds-stored ps h = stores-stored pairIn pairNumbers places width pair-numbers ps (length ps) refl h
 
 -- it is the one in which they do
 module _ (queue : Queue) (rows : Rows) (h : Holds queue rows) where
   waiting-length : length (waiting queue rows) ≡ queue .count
-  waiting-length = content-length pairIn pairNumbers places 8 (queue .count) rows h
+  waiting-length = content-length pairIn pairNumbers places width (queue .count) rows h
 
   pub queue-waiting : queueOf (waiting queue rows) ≡ queue
   queue-waiting = ap (λ (n : ℕ). record { count = n }) waiting-length
@@ -105,14 +105,14 @@ module _ (ofA ofB : ℕ) where
 
   -- passes the judge
   pub waiting-judged : (ps : List Pair) → SoundWaiting A ofA ofB ps → soundQueue ofA ofB (queueOf ps) (rowsOf ps) ≡ true
-  unfolding soundQueue pairIn
+  unfolding soundQueue
   waiting-judged ps h =
       rw (
         waiting-stored ps,
         le-leb (length ps) places (h .few),
         all-allOf (soundPair ofA ofB) ps (all-map (SoundPair A ofA ofB) (λ (p : Pair). soundPair ofA ofB p ≡ true) pair-judged ps (h .sounds)),
         each-chain comesBefore ps (h .ascends),
-        spare-stored pairIn pairNumbers places 8 pair-numbers ps (length ps) refl isBlank refl,
+        spare-stored pairIn pairNumbers places width pair-numbers ps (length ps) refl,
       )
 
 -- ---- kept

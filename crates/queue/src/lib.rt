@@ -1,9 +1,8 @@
 // The queue: the pairs formed and not yet handed out, in the plain list's order, in places that the caller lends.
 use area::Area;
-use area::entry_in;
 use interval::Interval;
 use journal::Gate;
-use pairing::Entry;
+use lists::is_blank;
 use pairing::Numbered;
 use pairing::Pair;
 use pairing::Partner;
@@ -18,14 +17,15 @@ ghost use lib.Seq.{slice};
 ghost use Rattle.lists.specs.Judge.{allOf, chain};
 ghost use Rattle.lists.specs.Keep.{keep};
 ghost use Rattle.lists.specs.Sort.{insertAllBy};
+ghost use Rattle.lists.specs.Store.{isBlank};
 ghost use Rattle.lists.proofs.Array.{Shaped};
-ghost use Rattle.lists.proofs.Merge.{Last, Slid};
+ghost use Rattle.lists.proofs.Merge.{Slid};
 ghost use Rattle.lists.proofs.Order.{Ascending};
-ghost use Rattle.pairing.specs.Pair.{pairs, comesBefore};
+ghost use Rattle.pairing.specs.Pair.{comesBefore};
 ghost use Rattle.pairing.specs.Side.{newPairs};
 ghost use Rattle.pairing.specs.Numbers.{pairIn, pairNumbers};
 ghost use Rattle.area.specs.Area as the_area;
-ghost use Rattle.queue.specs.Queue.{places, waiting, queueOf, rowsOf, Holds, ready, soundPair, isZero, isBlank, soundQueue};
+ghost use Rattle.queue.specs.Queue.{places, width, waiting, queueOf, rowsOf, Holds, ready, soundPair, soundQueue};
 
 // How many of the places are taken.
 pub struct Queue {
@@ -35,13 +35,15 @@ pub struct Queue {
 impl Queue {
     // How many pairs may wait.
     pub const PLACES: usize = 256;
+    // How many numbers a place holds.
+    pub const WIDTH: usize = 8;
 }
 
 // A row is start, end, A ordinal, B ordinal, A key, B key, A value and B value.
-pub type Places = [[u32; 8]; Queue::PLACES];
+pub type Places = [[u32; Queue::WIDTH]; Queue::PLACES];
 
 // The pair that a row holds.
-pub fn pair_in(row: [u32; 8]) -> Pair
+pub fn pair_in(row: [u32; Queue::WIDTH]) -> Pair
     ensures { λ r. ⌜ r ≡ pairIn row ⌝ }
 {
     let meeting = Interval {
@@ -62,7 +64,7 @@ pub fn pair_in(row: [u32; 8]) -> Pair
 }
 
 // The row of a pair.
-fn row_of(p: Pair) -> [u32; 8]
+fn row_of(p: Pair) -> [u32; Queue::WIDTH]
     ensures { λ r. ⌜ r ≡ pairNumbers p ⌝ }
 {
     [
@@ -81,12 +83,12 @@ fn row_of(p: Pair) -> [u32; 8]
 pub fn no_places() -> Places
     ensures { λ r. ⌜ r ≡ rowsOf [] ⌝ }
 {
-    [[0u32; 8]; Queue::PLACES]
+    [[0u32; Queue::WIDTH]; Queue::PLACES]
 }
 
 // An array behind a reference does not tell how many rows it has and how long they are; its value does, and the copy costs nothing.
 fn shaped(rows: Places)
-    ensures { λ _. ⌜ Shaped places 8 rows ⌝ }
+    ensures { λ _. ⌜ Shaped places width rows ⌝ }
 {}
 
 // The rows from k up to n moved to the front.
@@ -105,28 +107,13 @@ fn move_down(rows: &mut Places, k: usize, n: usize)
 // Zeros in the places from one up to another.
 fn blank(rows: &mut Places, from: usize, to: usize)
     requires { ⌜ (from ≤ to) × (to ≤ places) × (length (now rows) ≡ places) ⌝ }
-    ensures { λ _. ⌜ now (rows .exit) ≡ take from (now (rows .entry)) ++ (replicate (to - from) (replicate 8 0) ++ drop to (now (rows .entry))) ⌝ }
+    ensures { λ _. ⌜ now (rows .exit) ≡ take from (now (rows .entry)) ++ (replicate (to - from) (replicate width 0) ++ drop to (now (rows .entry))) ⌝ }
 {
-    let zeros = [0u32; 8];
+    let zeros = [0u32; Queue::WIDTH];
     let mut i = from;
     while i < to {
         rows[i] = zeros;
         i += 1;
-    }
-}
-
-// The place of the last of the first n held entries that pair with an entry of the other journal. One of them does.
-fn last_partner(held: &area::Places, n: usize, rule: Rule, e: Entry) -> usize
-    requires { ⌜ (n ≤ the_area.places) × (length (now held) ≡ the_area.places) × (0 < length (keep (λ row. pairs rule e (the_area.heldIn row .entry)) (take n (now held)))) ⌝ }
-    ensures { λ r. ⌜ Last (λ row. pairs rule e (the_area.heldIn row .entry)) (now (held .entry)) n [] r ⌝ }
-{
-    let mut i = n;
-    loop {
-        i -= 1;
-        let y = entry_in(held[i]);
-        if rule.pairs(e, y.entry) {
-            return i;
-        }
     }
 }
 
@@ -159,18 +146,6 @@ fn pair_sound(p: Pair, of_a: u32, of_b: u32) -> bool
     ensures { λ r. ⌜ r ≡ soundPair «of_a» «of_b» p ⌝ }
 {
     p.meeting.proper() && (p.a.ordinal < of_a && p.b.ordinal < of_b)
-}
-
-fn is_zero(x: Partner) -> bool
-    ensures { λ r. ⌜ r ≡ isZero x ⌝ }
-{
-    x.ordinal == 0 && (x.key == 0 && x.value == 0)
-}
-
-fn is_blank(p: Pair) -> bool
-    ensures { λ r. ⌜ r ≡ isBlank p ⌝ }
-{
-    p.meeting.start == 0 && (p.meeting.end == 0 && (is_zero(p.a) && is_zero(p.b)))
 }
 
 // Is every waiting pair sound?
@@ -207,11 +182,11 @@ fn in_order(rows: &Places, n: usize) -> bool
 // Does every spare place hold zeros?
 fn spare_blank(rows: &Places, n: usize) -> bool
     requires { ⌜ (n ≤ places) × (length (now rows) ≡ places) ⌝ }
-    ensures { λ r. ⌜ r ≡ allOf (λ row. isBlank (pairIn row)) (drop n (now (rows .entry))) ⌝ }
+    ensures { λ r. ⌜ r ≡ allOf isBlank (drop n (now (rows .entry))) ⌝ }
 {
     let mut i = n;
     while i < Queue::PLACES {
-        if !is_blank(pair_in(rows[i])) {
+        if !is_blank(&rows[i]) {
             return false;
         }
         i += 1;
@@ -269,8 +244,8 @@ impl Queue {
         let mut w = n;
         let mut gap = new;
         while gap > 0 {
-            i = last_partner(held, i, rule, x.entry);
-            let y = entry_in(held[i]);
+            i = area.last_partner(held, i, rule, x.entry);
+            let y = area.entry_at(held, i);
             let p = side.pair(x, y);
             w = slide(rows, w, gap, p);
             gap -= 1;

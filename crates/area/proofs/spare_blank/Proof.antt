@@ -1,36 +1,33 @@
 -- `spare_blank` meets its contract. While it runs, the spare places before i hold zeros.
 use borrow.Author.Needs.{needs}
-use Prim.Native.Nat.{ℕ, _≤_, _-_}
+use Prim.Native.Nat.{_≤_, _-_}
 use native.Mathlib.Omega.{arith}
 use mathlib.Core.Bool.{true}
-use mathlib.Core.List.{List, []}
+use mathlib.Core.List.{[]}
 use mathlib.Core.Path.{_≡_, sym, ap, _∙_}
-use lib.ListN.{take, drop}
 use borrow.Author.Tests.{not-true, not-false}
-use lib.Seq.{slice, slice-empty, take-all}
+use lib.Seq.{slice, slice-empty}
 use Rattle.lists.specs.Judge.{allOf}
-use Rattle.lists.proofs.Judge.{allOf-more, allOf-fails}
-use Rattle.area.specs.Area.{heldIn, isBlank, places}
+use Rattle.lists.specs.Store.{isBlank}
+use Rattle.lists.proofs.Judge.{allOf-more, allOf-rest, allOf-rest-fails}
+use Rattle.area.specs.Area.{places}
 use Rattle.area.proofs.spare_blank.Statement.{statement}
 use Rattle.area.proofs.spare_blank.Tie as tie
 
 abbrev Inv-loop : tie.InvT-loop
-Inv-loop rows n i₀ i = (n ≤ i) × (i ≤ places) × (allOf (λ (row : List ℕ). isBlank (heldIn row)) (slice n i rows) ≡ true)
+Inv-loop rows n i₀ i = (n ≤ i) × (i ≤ places) × (allOf isBlank (slice n i rows) ≡ true)
 
 abbrev μ-loop : tie.MeasureT-loop
 μ-loop rows n i₀ i = places - i
 
 loop-holds : tie.Need-loop-holds Inv-loop μ-loop
-loop-holds c = (omega arith, omega arith, ap (allOf (λ (row : List ℕ). isBlank (heldIn row))) (slice-empty (c .args .n) (c .args .rows .now)))
+loop-holds c = (omega arith, omega arith, ap (allOf isBlank) (slice-empty (c .args .n) (c .args .rows .now)))
 
-mul-entry-in : tie.Need-mul-entry-in Inv-loop μ-loop
-mul-entry-in c = search needs
+mul-is-blank : tie.Need-mul-is-blank Inv-loop μ-loop
+mul-is-blank c = search needs
 
-element-copy-out-entry-in : tie.Need-element-copy-out-entry-in Inv-loop μ-loop
-element-copy-out-entry-in c = search needs
-
-entry-in-requires : tie.Need-entry-in-requires Inv-loop μ-loop
-entry-in-requires c κs = search needs
+index-1-is-blank : tie.Need-index-1-is-blank Inv-loop μ-loop
+index-1-is-blank c = search needs
 
 is-blank-requires : tie.Need-is-blank-requires Inv-loop μ-loop
 is-blank-requires c κs = search needs
@@ -39,11 +36,7 @@ returns : tie.Need-returns Inv-loop μ-loop
 returns c =
     let s = c .before .before .before .before .before in
     let st = s .before in
-    let rows = st .args .rows .now in
-    let tested = c .before .is-blank .ensures ∙ ap isBlank (c .before .before .entry-in .ensures) in
-    let all : take places rows ≡ rows = take-all places rows (omega arith) in
-    sym (ap (λ (l : List (List ℕ)). allOf (λ (row : List ℕ). isBlank (heldIn row)) (drop (st .args .n) l)) (sym all)
-    ∙ allOf-fails (λ (row : List ℕ). isBlank (heldIn row)) rows (st .args .n) (s .loop .i) places [] (omega arith) (omega arith) (omega arith) (sym tested ∙ not-true _ (c .if1 .taken)))
+    sym (allOf-rest-fails isBlank (st .args .rows .now) (st .args .n) (s .loop .i) [] (omega arith) (omega arith) (sym (c .before .is-blank .ensures) ∙ not-true _ (c .if1 .taken)))
 
 add-i : tie.Need-add-i Inv-loop μ-loop
 add-i c = search needs
@@ -55,16 +48,13 @@ loop-again : tie.Need-loop-again Inv-loop μ-loop
 loop-again c =
     let s = c .before .before .before .before .before in
     let st = s .before in
-    let tested = c .before .is-blank .ensures ∙ ap isBlank (c .before .before .entry-in .ensures) in
-    (omega arith, omega arith, allOf-more (λ (row : List ℕ). isBlank (heldIn row)) (st .args .rows .now) (st .args .n) (s .loop .i) [] (omega arith) (omega arith) (s .loop .inv .2) (sym tested ∙ not-false _ (c .if1 .left)))
+    (omega arith, omega arith, allOf-more isBlank (st .args .rows .now) (st .args .n) (s .loop .i) [] (omega arith) (omega arith) (s .loop .inv .2) (sym (c .before .is-blank .ensures) ∙ not-false _ (c .if1 .left)))
 
 returns-2 : tie.Need-returns-2 Inv-loop μ-loop
 returns-2 c =
     let s = c .before in
     let st = s .before in
-    let rows = st .args .rows .now in
-    let all : take (s .loop .i) rows ≡ rows = take-all (s .loop .i) rows (omega arith) in
-    sym (ap (λ (l : List (List ℕ)). allOf (λ (row : List ℕ). isBlank (heldIn row)) (drop (st .args .n) l)) (sym all) ∙ s .loop .inv .2)
+    sym (allOf-rest isBlank (st .args .rows .now) (st .args .n) (s .loop .i) (omega arith) (s .loop .inv .2))
 
 pub spare-blank-spec : {M : Type 1} → statement M
 spare-blank-spec =
@@ -73,9 +63,8 @@ spare-blank-spec =
     Inv-loop
     μ-loop
     loop-holds
-    mul-entry-in
-    element-copy-out-entry-in
-    entry-in-requires
+    mul-is-blank
+    index-1-is-blank
     is-blank-requires
     returns
     add-i

@@ -2,7 +2,7 @@
 use borrow.Author.Needs.{needs}
 use native.Mathlib.Omega.{arith}
 use Rattle.lists.proofs.Array.{array-shaped}
-use Rattle.area.specs.Area.{places}
+use Rattle.area.specs.Area.{width, places}
 use Rattle.lent.proofs.Laws.{counted-within}
 use Rattle.lent.proofs.held_count.Statement.{statement}
 use Rattle.lent.proofs.held_count.Tie as tie
@@ -13,7 +13,7 @@ within-requires c κs = search needs
 partners-requires : tie.Need-partners-requires
 partners-requires c κs =
     let st = c .before .before in
-    (omega (arith, c .before .within .ensures), array-shaped places 5 (st .args .t2) _ (st .good .1 .0) .full)
+    (omega (arith, c .before .within .ensures), array-shaped places width (st .args .t2) _ (st .good .1 .0) .full)
 
 answer-requires : tie.Need-answer-requires
 answer-requires c κs = search needs
@@ -22,7 +22,7 @@ returns : tie.Need-returns
 returns c =
     let counting = c .before .before .before in
     let st = counting .before in
-    let full = array-shaped places 5 (st .args .t2) _ (st .good .1 .0) .full in
+    let full = array-shaped places width (st .args .t2) _ (st .good .1 .0) .full in
     rw (c .answer .ensures, c .before .partners .ensures)
     (counted-within (st .args .rule) (st .args .given) (st .args .area) (st .args .t2) (counting .within .result) full (counting .within .ensures))
 

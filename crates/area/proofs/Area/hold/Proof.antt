@@ -6,7 +6,7 @@ use mathlib.Core.List.{[], _∷_, _++_}
 use mathlib.Core.Path.{_≡_, ap, _∙_}
 use lib.ListN.{length, set, length-append}
 use Rattle.lists.proofs.Store.{content-length, stored-more}
-use Rattle.area.specs.Area.{heldIn, rowOf, places, held}
+use Rattle.area.specs.Area.{heldIn, width, rowOf, places, held}
 use Rattle.area.proofs.Laws.{holds-length}
 use Rattle.area.proofs.Area.hold.Statement.{statement}
 use Rattle.area.proofs.Area.hold.Tie as tie
@@ -28,10 +28,10 @@ returns c =
     let st = c .before in
     let n = st .args .self .count in
     let rows = st .args .rows .now in
-    let long = content-length heldIn rowOf places 5 n rows (st .pre .0) in
+    let long = content-length heldIn rowOf places width n rows (st .pre .0) in
     let more : n + 1 ≡ length (held (st .args .self) rows ++ (st .args .x ∷ [])) = omega (arith, long, length-append (held (st .args .self) rows) (st .args .x ∷ [])) in (
       ap (λ (m : ℕ). record { count = m }) more,
-      ap (set rows n) (c .row-of .ensures) ∙ stored-more heldIn rowOf places 5 n rows (st .pre .0) (st .args .x) (st .pre .1),
+      ap (set rows n) (c .row-of .ensures) ∙ stored-more heldIn rowOf places width n rows (st .pre .0) (st .args .x) (st .pre .1),
     )
 
 pub hold-spec : {M : Type 1} → statement M

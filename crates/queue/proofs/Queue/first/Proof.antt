@@ -1,10 +1,8 @@
 -- `first` meets its contract: the first place holds the first waiting pair.
 use borrow.Author.Needs.{needs}
 use native.Mathlib.Omega.{arith}
-use mathlib.Core.List.{[]}
-use mathlib.Core.Path.{sym, ap, _∙_}
-use lib.ListN.{take, List·getD-map}
-use lib.Seq.{getD-take}
+use mathlib.Core.Path.{sym, _∙_}
+use Rattle.lists.proofs.Store.{content-at}
 use Rattle.pairing.specs.Numbers.{pairIn}
 use Rattle.queue.proofs.Laws.{holds-length}
 use Rattle.queue.proofs.Queue.first.Statement.{statement}
@@ -19,9 +17,7 @@ pair-in-requires c κs = search needs
 returns : tie.Need-returns
 returns c =
     let st = c .before .before in
-    let rows = st .args .rows .now in
-    let n = st .args .self .count in
-    c .pair-in .ensures ∙ sym (List·getD-map pairIn (take n rows) 0 [] ∙ ap pairIn (getD-take n rows 0 [] (st .pre .0)))
+    c .pair-in .ensures ∙ sym (content-at pairIn (st .args .self .count) (st .args .rows .now) 0 (st .pre .0))
 
 pub first-spec : {M : Type 1} → statement M
 first-spec = tie.close (tie.spec element-copy-out-pair-in pair-in-requires returns)
