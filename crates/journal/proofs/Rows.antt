@@ -2,8 +2,8 @@
 use Prim.Native.Nat.{ℕ}
 use native.Mathlib.Omega.{arith}
 use mathlib.Core.Bool.{Bool, true, false, cond}
-use mathlib.Core.List.{List, [], _∷_}
-use mathlib.Core.Path.{_≡_, refl}
+use mathlib.Core.List.{List, [], _∷_, _++_}
+use mathlib.Core.Path.{_≡_, refl, sym, _∙_}
 use Rattle.lists.specs.Judge.{allOf}
 use Rattle.lists.specs.Check.{Check}
 use Rattle.lists.proofs.All.{All}
@@ -25,10 +25,27 @@ accepted-rows (row ∷ rows) e = go (row .when) refl e (accepted-rows rows)
     go true w f rest = absurd (never (row .number) f)
     go false w f rest = (w, rest f)
 
--- where no row applies, a call is accepted
-pub rows-accepted : (rows : List Check) → All (λ (row : Check). row .when ≡ false) rows → firstOf rows ≡ Accepted
-rows-accepted [] h = refl
-rows-accepted (row ∷ rows) h = rw (h .0) (rows-accepted rows (h .1))
+-- where nothing before applies, the rest decides
+pub firstOf-append : (rows more : List Check) → firstOf (rows ++ more) ≡ unlessRefused (firstOf rows) (firstOf more) (firstOf rows)
+firstOf-append [] more = refl
+firstOf-append (row ∷ rows) more = go (row .when) (firstOf-append rows more)
+  where
+    go : (b : Bool) → firstOf (rows ++ more) ≡ unlessRefused (firstOf rows) (firstOf more) (firstOf rows)
+        → cond b (Refused (row .number)) (firstOf (rows ++ more)) ≡ unlessRefused (cond b (Refused (row .number)) (firstOf rows)) (firstOf more) (cond b (Refused (row .number)) (firstOf rows))
+    go true e = refl
+    go false e = e
+
+-- where a call is accepted by two groups of rows, it is by each
+pub record BothAccept (rows more : List Check) : Type 0 where
+  pub first : firstOf rows ≡ Accepted
+  pub then : firstOf more ≡ Accepted
+
+pub accepted-both : (rows more : List Check) → firstOf (rows ++ more) ≡ Accepted → BothAccept rows more
+accepted-both rows more e = go (firstOf rows) refl (sym (firstOf-append rows more) ∙ e)
+  where
+    go : (a : Answer) → firstOf rows ≡ a → unlessRefused a (firstOf more) a ≡ Accepted → BothAccept rows more
+    go Accepted f g = record { first = f; then = g }
+    go (Refused number) f g = record { first = f ∙ g; then = absurd (let z : _≡_ {A = ℕ} 0 1 = cc in omega arith) }
 
 -- a test that passes 0 and the number of every row passes the answer's number
 pub number-rows : (p : ℕ → Bool) (rows : List Check) → p 0 ≡ true → allOf (λ (row : Check). p (row .number)) rows ≡ true → p (numberOf (firstOf rows)) ≡ true

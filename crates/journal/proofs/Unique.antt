@@ -9,6 +9,7 @@ use Rattle.journal.proofs.Gate.behind.Reads as behind
 use Rattle.journal.proofs.Journal.fresh.Reads as fresh
 use Rattle.journal.proofs.Journal.to.Reads as to
 use Rattle.journal.proofs.Journal.with.Reads as with
+use Rattle.journal.proofs.Journal.own_answer.Reads as own-answer
 use Rattle.journal.proofs.Journal.mark.Reads as mark
 
 one-wants : OneResult wants.Post
@@ -34,6 +35,9 @@ one-to = one-by-equation _ _
 
 one-with : OneResult with.Post
 one-with = one-by-equation _ _
+
+one-own-answer : OneResult own-answer.Post
+one-own-answer = one-by-equation _ _
 
 one-mark : OneResult mark.Post
 one-mark = one-by-equation _ _

@@ -1,8 +1,9 @@
 -- Each journal is either open, with its clock, or closed.
 use Prim.Native.Nat.{ℕ, _+_}
-use mathlib.Core.Bool.{Bool, true, false, _&&_}
+use mathlib.Core.Bool.{Bool, true, false, not, _&&_}
 use mathlib.Core.List.{List, [], _∷_}
 use lib.Dec.{ltb, leb}
+use Rattle.interval.specs.Interval.{properOf}
 use Rattle.lists.specs.Check.{Check, _gives_}
 use Rattle.pairing.specs.declared.Entry.{Entry}
 use Rattle.journal.specs.declared.Gate.{Gate}
@@ -30,6 +31,10 @@ abbrev pub notPast : Gate → ℕ → Bool
 notPast (Open clock) t = leb t clock
 notPast Closed t = true
 
+-- Limits: 1,000,000 accepted entries a journal.
+abbrev pub entries : ℕ
+entries = 1000000
+
 -- 2: that journal is closed.
 abbrev pub isClosed : Gate → Bool
 isClosed (Open clock) = false
@@ -51,6 +56,16 @@ moved gate j = record { gate = gate; accepted = j .accepted }
 -- An accepted entry sets its journal's clock to its start, and is one more accepted.
 abbrev pub entered : Entry → Journal → Journal
 entered e j = record { gate = Open (e .span .start); accepted = j .accepted + 1 }
+
+-- the rows by which a journal alone refuses an entry
+-- 2: that journal is closed. 3: start not below end. 4: start below the journal's clock. 5: 1,000,000 entries already accepted.
+unfoldable pub ownRows : Journal → Entry → List Check
+ownRows j e =
+    (isClosed (j .gate) gives 2)
+    ∷ (not (properOf (e .span)) gives 3)
+    ∷ (isBehind (j .gate) (e .span .start) gives 4)
+    ∷ (leb entries (j .accepted) gives 5)
+    ∷ []
 
 -- a mark on a journal alone follows 2, then 4
 abbrev pub markRows : ℕ → Journal → List Check

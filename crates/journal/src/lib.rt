@@ -2,7 +2,8 @@
 use pairing::Entry;
 ghost use mathlib.Core.Path.{_≡_};
 ghost use Prim.Native.Nat.{_<_};
-ghost use Rattle.journal.specs.Journal.{wanted, below, notPast, isClosed, isBehind, freshJournal, moved, entered, marked};
+ghost use Rattle.journal.specs.Answer.{firstOf};
+ghost use Rattle.journal.specs.Journal.{entries, wanted, below, notPast, isClosed, isBehind, freshJournal, moved, entered, ownRows, marked};
 
 // Open, with the clock before which no later entry starts; or closed.
 pub enum Gate {
@@ -106,13 +107,33 @@ impl Journal {
 
     // The journal with one more accepted entry.
     pub fn with(self, e: Entry) -> Journal
-        requires { ⌜ self .accepted < 1000000 ⌝ }
+        requires { ⌜ self .accepted < entries ⌝ }
         ensures { λ r. ⌜ r ≡ entered e self ⌝ }
     {
         Journal {
             gate: Gate::Open(e.span.start),
             accepted: self.accepted + 1,
         }
+    }
+
+    // What the journal alone answers an entry: whether it is open, what the entry's times are, and how many it has accepted.
+    pub fn own_answer(self, e: Entry) -> Answer
+        ensures { λ r. ⌜ r ≡ firstOf (ownRows self e) ⌝ }
+    {
+        let gate = self.gate;
+        if gate.closed() {
+            return Answer::Refused(refusals::CLOSED);
+        }
+        if !e.span.proper() {
+            return Answer::Refused(refusals::IMPROPER);
+        }
+        if gate.behind(e.span.start) {
+            return Answer::Refused(refusals::BEHIND);
+        }
+        if Journal::ENTRIES <= self.accepted {
+            return Answer::Refused(refusals::SPENT);
+        }
+        Answer::Accepted
     }
 
     // A mark: refused with 2 where the journal is closed, with 4 where the time is below its clock.
