@@ -25,8 +25,8 @@ accepted-rows (row ∷ rows) e = go (row .when) refl e (accepted-rows rows)
     go true w f rest = absurd (never (row .number) f)
     go false w f rest = (w, rest f)
 
--- where nothing before applies, the rest decides
-pub firstOf-append : (rows more : List Check) → firstOf (rows ++ more) ≡ unlessRefused (firstOf rows) (firstOf more) (firstOf rows)
+-- of two groups of rows the first decides, and where none of it applies, the other
+firstOf-append : (rows more : List Check) → firstOf (rows ++ more) ≡ unlessRefused (firstOf rows) (firstOf more) (firstOf rows)
 firstOf-append [] more = refl
 firstOf-append (row ∷ rows) more = go (row .when) (firstOf-append rows more)
   where
@@ -35,7 +35,13 @@ firstOf-append (row ∷ rows) more = go (row .when) (firstOf-append rows more)
     go true e = refl
     go false e = e
 
--- where a call is accepted by two groups of rows, it is by each
+pub first-refuses : (rows more : List Check) (number : ℕ) → firstOf rows ≡ Refused number → firstOf (rows ++ more) ≡ Refused number
+first-refuses rows more number e = firstOf-append rows more ∙ rw e
+
+pub first-passes : (rows more : List Check) → firstOf rows ≡ Accepted → firstOf (rows ++ more) ≡ firstOf more
+first-passes rows more e = firstOf-append rows more ∙ rw e
+
+-- where a call is accepted by both, it is by each
 pub record BothAccept (rows more : List Check) : Type 0 where
   pub first : firstOf rows ≡ Accepted
   pub then : firstOf more ≡ Accepted

@@ -1,0 +1,50 @@
+-- What an admitted entry and an accepted close are known to meet.
+use Prim.Native.Nat.{_+_, _≤_, _<_}
+use mathlib.Core.Bool.{Bool, true, false, _&&_, false≢true}
+use mathlib.Core.Path.{_≡_}
+use lib.Dec.{leb}
+use lib.ListN.{length}
+use borrow.Author.Tests.{leb-false, ltb-false}
+use Rattle.pairing.specs.declared.Entry.{Entry}
+use Rattle.pairing.specs.declared.Side.{Side}
+use Rattle.journal.specs.declared.Answer.the-variants.{Accepted}
+use Rattle.journal.specs.Answer.{firstOf}
+use Rattle.journal.specs.Journal.{wanted, isClosed, ownRows}
+use Rattle.journal.proofs.Facts.{OwnMet, own-met}
+use Rattle.journal.proofs.Rows.{accepted-rows, accepted-both}
+use Rattle.area.specs.Area as area
+use Rattle.queue.specs.Queue as queue
+use Rattle.halves.specs.View.{View}
+use Rattle.halves.specs.Calls.{formed, roomFor, roomRows, entryRows, closeRows}
+
+-- there is room to hold it, if it is wanted, and for its pairs to wait
+pub record RoomMet (side : Side) (v : View) (e : Entry) : Type 0 where
+  pub hold : wanted (v .other .gate) e ≡ true → length (v .mine) < area.most
+  pub wait : length (v .waiting) + length (formed side v e) ≤ queue.places
+
+pub room-met : (side : Side) (v : View) (e : Entry) → firstOf (roomRows side v e) ≡ Accepted → RoomMet side v e
+unfolding roomFor
+room-met side v e h =
+    let (held, (wait, none)) = accepted-rows (roomRows side v e) h in
+    record {
+      hold = λ w. leb-false area.most (length (v .mine)) (full (wanted (v .other .gate) e) (leb area.most (length (v .mine))) held w);
+      wait = ltb-false queue.places (length (v .waiting) + length (formed side v e)) wait;
+    }
+  where
+    full : (a b : Bool) → a && b ≡ false → a ≡ true → b ≡ false
+    full true b k w = k
+    full false b k w = absurd (false≢true w)
+
+pub record Admitted (side : Side) (v : View) (e : Entry) : Type 0 where
+  pub own : OwnMet (v .own) e
+  pub room : RoomMet side v e
+
+pub entry-met : (side : Side) (v : View) (e : Entry) → firstOf (entryRows side v e) ≡ Accepted → Admitted side v e
+unfolding entryRows
+entry-met side v e h =
+    let both = accepted-both (ownRows (v .own) e) (roomRows side v e) h in
+    record { own = own-met (v .own) e (both .first); room = room-met side v e (both .then) }
+
+-- a close finds its journal open
+pub close-met : (v : View) → firstOf (closeRows v) ≡ Accepted → isClosed (v .own .gate) ≡ false
+close-met v h = accepted-rows (closeRows v) h .0
