@@ -1,79 +1,52 @@
 -- A fresh state is sound, and every call on a sound state leaves a sound one.
-use Prim.Native.Nat.{ℕ, _+_, _≤_, _<_}
+use Prim.Native.Nat.{ℕ}
 use native.Mathlib.Omega.{arith}
 use mathlib.Core.Bool.{Bool, true, false, cond}
 use mathlib.Core.List.{List, [], _++_}
 use mathlib.Core.Path.{_≡_, refl, sym, subst}
-use lib.Dec.{leb}
-use lib.ListN.{length, drop}
-use borrow.Author.Tests.{leb-true, leb-false, ltb-false, le-leb, not-false}
-use Rattle.interval.specs.Interval.{properOf}
+use lib.ListN.{drop}
+use borrow.Author.Tests.{leb-true, le-leb}
 use Rattle.lists.specs.Check.{Check}
-use Rattle.lists.proofs.All.{All, all-map}
-use Rattle.lists.proofs.Bools.{and-left, and-right}
 use Rattle.pairing.specs.declared.Entry.{Entry}
-use Rattle.pairing.specs.declared.Numbered.{Numbered}
 use Rattle.pairing.specs.declared.Rule.{Rule}
 use Rattle.pairing.specs.declared.Side.{Side}
 use Rattle.pairing.specs.declared.Side.the-variants.{A, B}
 use Rattle.journal.specs.declared.Answer.the-variants as answer
-use Rattle.journal.specs.declared.Gate.{Gate}
 use Rattle.journal.specs.declared.Gate.the-variants.{Open, Closed}
 use Rattle.journal.specs.Answer.{firstOf}
-use Rattle.journal.specs.Journal.{freshJournal, markRows}
-use Rattle.journal.proofs.Onward.{Onward, onward-closed, onward-open}
-use Rattle.journal.proofs.Rows.{accepted-rows, unless-refused}
-use Rattle.area.specs.Area as area
+use Rattle.journal.specs.Journal.{entries, freshJournal, markRows}
+use Rattle.journal.proofs.Facts.{timely-onward, mark-met}
+use Rattle.journal.proofs.Onward.{onward-closed}
+use Rattle.journal.proofs.Rows.{unless-refused}
 use Rattle.area.proofs.Sound as areas
 use Rattle.queue.specs.Queue as queue
 use Rattle.queue.proofs.Sound as queues
+use Rattle.halves.specs.View.{View}
+use Rattle.halves.specs.Calls.{entryRows, afterEntry, afterMove, closeRows}
+use Rattle.halves.proofs.Facts.{entry-met}
+use Rattle.halves.proofs.Kept.{SoundView, sound-turned, sound-move, sound-entry}
+use Rattle.halves.proofs.View.{turned}
 use Rattle.join.specs.declared.Took.{Took}
 use Rattle.join.specs.declared.Took.the-variants.{Handed, Waiting, Finished, Refused}
-use Rattle.join.specs.State.{State, entries, sound, Sound, View, view, stateOf, freshState}
-use Rattle.join.specs.Calls.{called, sideOf, judgeRows, arrival, formed, entryRows, afterEntry, entryOn, entryCall, afterMove, markOn, markCall, closeRows, closeOn, closeCall, waitingIn, readyIn, bothClosed, nextOf, without, afterTake, takeOn, takeCall}
-use Rattle.join.proofs.View.{across, turned, view-across, stateOf-across}
+use Rattle.join.specs.State.{State, sound, Sound, view, stateOf, freshState}
+use Rattle.join.specs.Calls.{called, sideOf, judgeRows, entryOn, entryCall, markOn, markCall, closeOn, closeCall, waitingIn, readyIn, bothClosed, nextOf, without, afterTake, takeOn, takeCall}
+use Rattle.join.proofs.Facts.{Parts, sound-parts, parts-sound, judged-met}
+use Rattle.join.proofs.View.{view-across, stateOf-across}
 
 -- ---- soundness of what a side sees
 
-pub record SoundView (side : Side) (v : View) : Type 0 where
-  pub own-count : v .own .accepted ≤ entries
-  pub other-count : v .other .accepted ≤ entries
-  pub mine : areas.SoundHeld (v .rule) (v .own) (v .other .gate) (v .mine)
-  pub others : areas.SoundHeld (v .rule) (v .other) (v .own .gate) (v .others)
-  pub waiting : queues.SoundWaiting side (v .own .accepted) (v .other .accepted) (v .waiting)
-
--- it is the same from both sides
-pub sound-turned : (side : Side) (v : View) → SoundView side v → SoundView (across side) (turned v)
-sound-turned A v h = record {
-  own-count = h .other-count;
-  other-count = h .own-count;
-  mine = h .others;
-  others = h .mine;
-  waiting = queues.turned-to-b (v .own .accepted) (v .other .accepted) (v .waiting) (h .waiting);
-}
-sound-turned B v h = record {
-  own-count = h .other-count;
-  other-count = h .own-count;
-  mine = h .others;
-  others = h .mine;
-  waiting = queues.turned-to-a (v .own .accepted) (v .other .accepted) (v .waiting) (h .waiting);
-}
-
 seen-from-a : (s : State) → Sound s → SoundView A (view A s)
-unfolding sound view
+unfolding view
 seen-from-a s h =
     let a = s .join .a in
     let b = s .join .b in
-    let e1 = and-right (leb (a .journal .accepted) entries) _ (h .judged) in
-    let e2 = and-right (leb (b .journal .accepted) entries) _ e1 in
-    let e3 = and-right (area.soundArea (s .join .rule) (a .journal) (b .journal .gate) (a .area) (s .inA)) _ e2 in
+    let part = sound-parts s (h .judged) in
     record {
-      own-count = leb-true (a .journal .accepted) entries (and-left (leb (a .journal .accepted) entries) _ (h .judged));
-      other-count = leb-true (b .journal .accepted) entries (and-left (leb (b .journal .accepted) entries) _ e1);
-      mine = areas.judged-held (s .join .rule) (a .journal) (b .journal .gate) (a .area) (s .inA) (h .holdsA) (and-left (area.soundArea (s .join .rule) (a .journal) (b .journal .gate) (a .area) (s .inA)) _ e2);
-      others = areas.judged-held (s .join .rule) (b .journal) (a .journal .gate) (b .area) (s .inB) (h .holdsB) (and-left (area.soundArea (s .join .rule) (b .journal) (a .journal .gate) (b .area) (s .inB)) _ e3);
-      waiting = queues.judged-waiting (a .journal .accepted) (b .journal .accepted) (s .join .queue) (s .rows) (h .holdsQueue)
-          (and-right (area.soundArea (s .join .rule) (b .journal) (a .journal .gate) (b .area) (s .inB)) _ e3);
+      own-count = leb-true (a .journal .accepted) entries (part .countA);
+      other-count = leb-true (b .journal .accepted) entries (part .countB);
+      mine = areas.judged-held (s .join .rule) (a .journal) (b .journal .gate) (a .area) (s .inA) (h .holdsA) (part .areaA);
+      others = areas.judged-held (s .join .rule) (b .journal) (a .journal .gate) (b .area) (s .inB) (h .holdsB) (part .areaB);
+      waiting = queues.judged-waiting (a .journal .accepted) (b .journal .accepted) (s .join .queue) (s .rows) (h .holdsQueue) (part .waits);
     }
 
 -- what a side sees of a sound state is sound
@@ -82,16 +55,15 @@ sound-view A s h = seen-from-a s h
 sound-view B s h = subst (SoundView B) (sym (view-across A s)) (sound-turned A (view A s) (seen-from-a s h))
 
 stored-from-a : (v : View) → SoundView A v → Sound (stateOf A v)
-unfolding sound stateOf
+unfolding stateOf
 stored-from-a v h = record {
-  judged =
-      rw (
-        le-leb (v .own .accepted) entries (h .own-count),
-        le-leb (v .other .accepted) entries (h .other-count),
-        areas.held-judged (v .rule) (v .own) (v .other .gate) (v .mine) (h .mine),
-        areas.held-judged (v .rule) (v .other) (v .own .gate) (v .others) (h .others),
-      )
-      (queues.waiting-judged (v .own .accepted) (v .other .accepted) (v .waiting) (h .waiting));
+  judged = parts-sound (stateOf A v) (record {
+    countA = le-leb (v .own .accepted) entries (h .own-count);
+    countB = le-leb (v .other .accepted) entries (h .other-count);
+    areaA = areas.held-judged (v .rule) (v .own) (v .other .gate) (v .mine) (h .mine);
+    areaB = areas.held-judged (v .rule) (v .other) (v .own .gate) (v .others) (h .others);
+    waits = queues.waiting-judged (v .own .accepted) (v .other .accepted) (v .waiting) (h .waiting);
+  });
   holdsA = areas.holds-stored (v .mine) (h .mine .few);
   holdsB = areas.holds-stored (v .others) (h .others .few);
   holdsQueue = queues.holds-stored (v .waiting) (h .waiting .few);
@@ -114,50 +86,25 @@ sound-fresh rule = sound-stateOf A (record { rule = rule; own = freshJournal; ot
   waiting = queues.waiting-none A 0 0;
 })
 
--- ---- what an accepted call leaves is sound
-
-module _ (side : Side) (v : View) (h : SoundView side v) where
-  pub sound-move : (gate : Gate) → Onward (v .own .gate) gate → SoundView side (afterMove gate v)
-  unfolding afterMove
-  sound-move gate on = record {
-    own-count = h .own-count;
-    other-count = h .other-count;
-    mine = areas.held-moved (v .rule) (v .own) (v .other .gate) (v .mine) (h .mine) gate on;
-    others = areas.held-cleared (v .rule) (v .other) (v .own .gate) (v .others) (h .others) gate;
-    waiting = h .waiting;
-  }
-
-  pub sound-entry : (e : Entry) → All (λ (row : Check). row .when ≡ false) (entryRows side v e) → SoundView side (afterEntry side v e)
-  unfolding entryRows afterEntry
-  sound-entry e rows =
-      let start = e .span .start in
-      let proper : properOf (e .span) ≡ true = not-false (properOf (e .span)) (rows .1 .0) in
-      let on : Onward (v .own .gate) (Open start) = onward-open (v .own .gate) start (rows .0) (rows .1 .1 .0) in
-      let room : v .own .accepted < entries = leb-false entries (v .own .accepted) (rows .1 .1 .1 .0) in
-      record {
-        own-count = omega arith;
-        other-count = h .other-count;
-        mine = areas.held-entered (v .rule) (v .own) (v .other .gate) (v .mine) (h .mine) e proper on (λ w. leb-false area.most (length (v .mine)) (rw w at (rows .1 .1 .1 .1 .0)));
-        others = areas.held-cleared (v .rule) (v .other) (v .own .gate) (v .others) (h .others) (Open start);
-        waiting = queues.waiting-merged side (v .own .accepted) (v .other .accepted) (v .waiting) (h .waiting) (v .rule) (arrival v e) (v .others) refl
-            (all-map (areas.SoundEntry (v .rule) (v .other) (v .own .gate)) (λ (y : Numbered). y .ordinal < v .other .accepted) (λ y s. s .numbered) (v .others) (h .others .sounds))
-            (h .others .laters) (ltb-false queue.places (length (v .waiting) + length (formed side v e)) (rows .1 .1 .1 .1 .1 .0));
-      }
-
 -- ---- every call leaves a sound state
 
 module _ (s : State) (h : Sound s) where
   -- a call that rows of the table may refuse, if what it would leave is sound
-  called-kept : (rows : List Check) (next : State) → (All (λ (row : Check). row .when ≡ false) rows → Sound next) → Sound (called s rows next .state)
-  called-kept rows next f = unless-refused Sound (firstOf rows) next s (λ e. f (accepted-rows rows e)) h
+  called-kept : (rows : List Check) (next : State) → (firstOf rows ≡ answer.Accepted → Sound next) → Sound (called s rows next .state)
+  called-kept rows next f = unless-refused Sound (firstOf rows) next s f h
 
-  entered : (side : Side) (e : Entry) → All (λ (row : Check). row .when ≡ false) (entryRows side (view side s) e) → Sound (stateOf side (afterEntry side (view side s) e))
-  entered side e rows = sound-stateOf side (afterEntry side (view side s) e) (sound-entry side (view side s) (sound-view side s h) e rows)
+  judged-kept : (stream : ℕ) (rows : List Check) (next : State) → (firstOf rows ≡ answer.Accepted → Sound next) → Sound (called s (judgeRows s stream ++ rows) next .state)
+  judged-kept stream rows next f = called-kept (judgeRows s stream ++ rows) next (λ e. f (judged-met s stream rows e .rest))
 
-  marked : (side : Side) (time : ℕ) → All (λ (row : Check). row .when ≡ false) (markRows time (view side s .own)) → Sound (stateOf side (afterMove (Open time) (view side s)))
-  marked side time rows =
+  entered : (side : Side) (e : Entry) → firstOf (entryRows side (view side s) e) ≡ answer.Accepted → Sound (stateOf side (afterEntry side (view side s) e))
+  entered side e a =
       let v = view side s in
-      sound-stateOf side (afterMove (Open time) v) (sound-move side v (sound-view side s h) (Open time) (onward-open (v .own .gate) time (rows .0) (rows .1 .0)))
+      sound-stateOf side (afterEntry side v e) (sound-entry side v (sound-view side s h) e (entry-met side v e a))
+
+  marked : (side : Side) (time : ℕ) → firstOf (markRows time (view side s .own)) ≡ answer.Accepted → Sound (stateOf side (afterMove (Open time) (view side s)))
+  marked side time a =
+      let v = view side s in
+      sound-stateOf side (afterMove (Open time) v) (sound-move side v (sound-view side s h) (Open time) (timely-onward (v .own .gate) time (mark-met time (v .own) a)))
 
   closed : (side : Side) → Sound (stateOf side (afterMove Closed (view side s)))
   closed side =
@@ -168,19 +115,19 @@ module _ (s : State) (h : Sound s) where
   unfolding entryCall
   entry-kept stream e =
       let side = sideOf stream in
-      called-kept (judgeRows s stream ++ entryRows side (view side s) e) (stateOf side (afterEntry side (view side s) e)) (λ rows. entered side e (rows .1 .1))
+      judged-kept stream (entryRows side (view side s) e) (stateOf side (afterEntry side (view side s) e)) (entered side e)
 
   pub mark-kept : (stream time : ℕ) → Sound (markCall s stream time .state)
   unfolding markCall
   mark-kept stream time =
       let side = sideOf stream in
-      called-kept (judgeRows s stream ++ markRows time (view side s .own)) (stateOf side (afterMove (Open time) (view side s))) (λ rows. marked side time (rows .1 .1))
+      judged-kept stream (markRows time (view side s .own)) (stateOf side (afterMove (Open time) (view side s))) (marked side time)
 
   pub close-kept : (stream : ℕ) → Sound (closeCall s stream .state)
   unfolding closeCall
   close-kept stream =
       let side = sideOf stream in
-      called-kept (judgeRows s stream ++ closeRows (view side s)) (stateOf side (afterMove Closed (view side s))) (λ rows. closed side)
+      judged-kept stream (closeRows (view side s)) (stateOf side (afterMove Closed (view side s))) (λ a. closed side)
 
   -- the same below the judge
   pub entryOn-kept : (side : Side) (e : Entry) → Sound (entryOn s side e .state)
@@ -194,24 +141,20 @@ module _ (s : State) (h : Sound s) where
 
   -- the first k waiting pairs dropped
   pub without-kept : (k : ℕ) → Sound (without k s)
-  unfolding sound without
+  unfolding without
   without-kept k =
-      let a = s .join .a in
-      let b = s .join .b in
-      let e1 = and-right (leb (a .journal .accepted) entries) _ (h .judged) in
-      let e2 = and-right (leb (b .journal .accepted) entries) _ e1 in
-      let e3 = and-right (area.soundArea (s .join .rule) (a .journal) (b .journal .gate) (a .area) (s .inA)) _ e2 in
-      let left = queues.waiting-dropped A (a .journal .accepted) (b .journal .accepted) (waitingIn s)
-      (queues.judged-waiting (a .journal .accepted) (b .journal .accepted) (s .join .queue) (s .rows) (h .holdsQueue) (and-right (area.soundArea (s .join .rule) (b .journal) (a .journal .gate) (b .area) (s .inB)) _ e3)) k in
+      let ofA = s .join .a .journal .accepted in
+      let ofB = s .join .b .journal .accepted in
+      let part = sound-parts s (h .judged) in
+      let left = queues.waiting-dropped A ofA ofB (waitingIn s) (queues.judged-waiting ofA ofB (s .join .queue) (s .rows) (h .holdsQueue) (part .waits)) k in
       record {
-        judged =
-            rw (
-              and-left (leb (a .journal .accepted) entries) _ (h .judged),
-              and-left (leb (b .journal .accepted) entries) _ e1,
-              and-left (area.soundArea (s .join .rule) (a .journal) (b .journal .gate) (a .area) (s .inA)) _ e2,
-              and-left (area.soundArea (s .join .rule) (b .journal) (a .journal .gate) (b .area) (s .inB)) _ e3,
-            )
-            (queues.waiting-judged (a .journal .accepted) (b .journal .accepted) (drop k (waitingIn s)) left);
+        judged = parts-sound (without k s) (record {
+          countA = part .countA;
+          countB = part .countB;
+          areaA = part .areaA;
+          areaB = part .areaB;
+          waits = queues.waiting-judged ofA ofB (drop k (waitingIn s)) left;
+        });
         holdsA = h .holdsA;
         holdsB = h .holdsB;
         holdsQueue = queues.holds-stored (drop k (waitingIn s)) (left .few);
@@ -224,7 +167,7 @@ module _ (s : State) (h : Sound s) where
   after-kept (Refused number) = h
 
   pub takeOn-kept : Sound (takeOn s .state)
-  takeOn-kept = after-kept (nextOf (readyIn s) (bothClosed s) (waitingIn s))
+  takeOn-kept = after-kept (nextOf (readyIn s) (bothClosed (s .join)) (waitingIn s))
 
   pub take-kept : Sound (takeCall s .state)
   unfolding takeCall

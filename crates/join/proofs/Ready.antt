@@ -19,21 +19,28 @@ use Rattle.pairing.specs.declared.Side.{Side}
 use Rattle.pairing.specs.declared.Side.the-variants.{A, B}
 use Rattle.pairing.specs.Pair.{comesBefore}
 use Rattle.pairing.proofs.Arrival.{pairFrom-start, all-newPairs}
+use Rattle.journal.specs.declared.Answer.the-variants.{Accepted}
 use Rattle.journal.specs.declared.Gate.{Gate}
 use Rattle.journal.specs.declared.Gate.the-variants.{Open, Closed}
 use Rattle.journal.specs.Answer.{firstOf}
 use Rattle.journal.specs.Journal.{markRows}
-use Rattle.journal.proofs.Onward.{Onward, onward-same, onward-closed, onward-open}
-use Rattle.journal.proofs.Rows.{accepted-rows, unless-refused}
+use Rattle.journal.proofs.Facts.{timely-onward, mark-met}
+use Rattle.journal.proofs.Onward.{Onward, onward-same, onward-closed}
+use Rattle.journal.proofs.Rows.{unless-refused}
 use Rattle.queue.specs.Queue as queue
 use Rattle.queue.proofs.Sound.{waiting-stored, queue-waiting}
 use Rattle.queue.proofs.Ready.{keep-ready-comm, ready-ahead, ready-head, ready-grows}
+use Rattle.halves.specs.View.{View}
+use Rattle.halves.specs.Calls.{arrival, formed, entryRows, afterEntry, afterMove, closeRows}
+use Rattle.halves.proofs.Facts.{entry-met}
+use Rattle.halves.proofs.Kept.{sound-move, sound-entry}
 use Rattle.join.specs.declared.Took.{Took}
 use Rattle.join.specs.declared.Took.the-variants.{Handed}
-use Rattle.join.specs.State.{State, Sound, View, view, stateOf}
-use Rattle.join.specs.Calls.{Outcome, called, sideOf, judgeRows, arrival, formed, entryRows, afterEntry, entryCall, afterMove, markCall, closeRows, closeCall, waitingIn, readyIn, readyOf, bothClosed, nextOf, without, afterTake, takeOn, takeCall}
+use Rattle.join.specs.State.{State, Sound, view, stateOf}
+use Rattle.join.specs.Calls.{Outcome, called, sideOf, judgeRows, entryCall, markCall, closeCall, waitingIn, readyIn, readyOf, bothClosed, nextOf, without, afterTake, takeOn, takeCall}
+use Rattle.join.proofs.Facts.{judged-met}
 use Rattle.join.proofs.View.{view-stateOf, view-waiting}
-use Rattle.join.proofs.Kept.{sound-view, sound-move, sound-entry, without-kept}
+use Rattle.join.proofs.Kept.{sound-view, without-kept}
 
 -- at most 256 are ready
 pub ready-few : (s : State) → Sound s → length (readyOf s) ≤ queue.places
@@ -84,38 +91,40 @@ module _ (s : State) (h : Sound s) (side : Side) where
   grows-move gate on = grows-seen (afterMove gate seen) on refl refl (sound-move side seen (sound-view side s h) gate on .waiting .ascends)
 
   -- its own pairs start no earlier than an entry, so that none of them is ready yet
-  grows-entry : (e : Entry) → All (λ (row : Check). row .when ≡ false) (entryRows side seen e) → Grows s (stateOf side (afterEntry side seen e))
-  unfolding entryRows afterEntry
-  grows-entry e rows =
+  grows-entry : (e : Entry) → firstOf (entryRows side seen e) ≡ Accepted → Grows s (stateOf side (afterEntry side seen e))
+  unfolding afterEntry
+  grows-entry e a =
       let start = e .span .start in
-      let on : Onward (seen .own .gate) (Open start) = onward-open (seen .own .gate) start (rows .0) (rows .1 .1 .0) in
+      let met = entry-met side seen e a in
+      let on : Onward (seen .own .gate) (Open start) = timely-onward (seen .own .gate) start (met .own .timely) in
       let due : Pair → Bool = queue.ready (seen .own .gate) (seen .other .gate) in
       let late : All (λ (p : Pair). due p ≡ false) (formed side seen e) = all-newPairs (λ (p : Pair). due p ≡ false) (λ (y : Numbered). Unit {0}) (seen .rule) side (arrival seen e) (seen .others)
       (λ y u f. ready-ahead (seen .own .gate) (seen .other .gate) start on _ (pairFrom-start (arrival seen e) y side)) (all-any (λ (y : Numbered). Unit {0}) (λ y. tt) (seen .others)) in
-      grows-seen (afterEntry side seen e) on refl (keep-insertAllBy comesBefore due (formed side seen e) (seen .waiting) late) (sound-entry side seen (sound-view side s h) e rows .waiting .ascends)
+      grows-seen (afterEntry side seen e) on refl (keep-insertAllBy comesBefore due (formed side seen e) (seen .waiting) late) (sound-entry side seen (sound-view side s h) e met .waiting .ascends)
 
 module _ (s : State) (h : Sound s) where
-  called-grows : (rows : List Check) (next : State) → (All (λ (row : Check). row .when ≡ false) rows → Grows s next) → Grows s (called s rows next .state)
-  called-grows rows next f = unless-refused (Grows s) (firstOf rows) next s (λ e. f (accepted-rows rows e)) (grows-same s)
+  judged-grows : (stream : ℕ) (rows : List Check) (next : State) → (firstOf rows ≡ Accepted → Grows s next) → Grows s (called s (judgeRows s stream ++ rows) next .state)
+  judged-grows stream rows next f = unless-refused (Grows s) (firstOf (judgeRows s stream ++ rows)) next s (λ e. f (judged-met s stream rows e .rest)) (grows-same s)
 
   pub entry-grows : (stream : ℕ) (e : Entry) → Grows s (entryCall s stream e .state)
   unfolding entryCall
   entry-grows stream e =
       let side = sideOf stream in
-      called-grows (judgeRows s stream ++ entryRows side (view side s) e) (stateOf side (afterEntry side (view side s) e)) (λ rows. grows-entry s h side e (rows .1 .1))
+      judged-grows stream (entryRows side (view side s) e) (stateOf side (afterEntry side (view side s) e)) (grows-entry s h side e)
 
   pub mark-grows : (stream time : ℕ) → Grows s (markCall s stream time .state)
   unfolding markCall
   mark-grows stream time =
       let side = sideOf stream in
-      called-grows (judgeRows s stream ++ markRows time (view side s .own)) (stateOf side (afterMove (Open time) (view side s)))
-      (λ rows. grows-move s h side (Open time) (onward-open (view side s .own .gate) time (rows .1 .1 .0) (rows .1 .1 .1 .0)))
+      let own = view side s .own in
+      judged-grows stream (markRows time own) (stateOf side (afterMove (Open time) (view side s)))
+      (λ a. grows-move s h side (Open time) (timely-onward (own .gate) time (mark-met time own a)))
 
   pub close-grows : (stream : ℕ) → Grows s (closeCall s stream .state)
   unfolding closeCall
   close-grows stream =
       let side = sideOf stream in
-      called-grows (judgeRows s stream ++ closeRows (view side s)) (stateOf side (afterMove Closed (view side s))) (λ rows. grows-move s h side Closed (onward-closed (view side s .own .gate)))
+      judged-grows stream (closeRows (view side s)) (stateOf side (afterMove Closed (view side s))) (λ a. grows-move s h side Closed (onward-closed (view side s .own .gate)))
 
 -- ---- a take
 
@@ -144,7 +153,7 @@ module _ (s : State) (h : Sound s) where
           let first : q ≡ p = cc in
           let then : keep (readyIn s) qs ≡ rest = cc in (
             take-sound
-                ∙ ap (λ (l : List Pair). record { answer = nextOf (readyIn s) (bothClosed s) l; state = afterTake (nextOf (readyIn s) (bothClosed s) l) s }) w
+                ∙ ap (λ (l : List Pair). record { answer = nextOf (readyIn s) (bothClosed (s .join)) l; state = afterTake (nextOf (readyIn s) (bothClosed (s .join)) l) s }) w
                 ∙ rw (r, first),
             ap (keep (readyIn (without 1 s))) (waiting-without 1 s ∙ ap (drop 1) w) ∙ ap (λ (f : Pair → Bool). keep f qs) (ready-without 1 s) ∙ then,
           )

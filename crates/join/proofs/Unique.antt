@@ -2,17 +2,16 @@
 use Prim.Native.Nat.{_≤_}
 use mathlib.Core.List.{[]}
 use mathlib.Core.Path.{_≡_}
-use lib.ListN.{replicate, length-replicate}
+use lib.ListN.{replicate}
 use denote.Ref.{now}
 use Rattle.unique.specs.Unique.{OneResult, OneOutcome}
 use Rattle.unique.proofs.Equation.{one-by-equation, outcome-by-equation, agree}
 use Rattle.lists.specs.Store.{Rows}
-use Rattle.lists.proofs.Store.{stores-stored}
-use Rattle.pairing.specs.Numbers.{pairNumbers, pairIn}
-use Rattle.pairing.proofs.Numbers.{pair-numbers}
+use Rattle.pairing.specs.Numbers.{pairIn}
 use Rattle.journal.specs.declared.Answer.{Answer}
 use Rattle.queue.specs.declared.Queue.{Queue}
 use Rattle.queue.specs.Queue as queue
+use Rattle.halves.proofs.Unique.{spare-queue}
 use Rattle.join.specs.declared.Join.{Join}
 use Rattle.join.specs.declared.Called.{Called}
 use Rattle.join.specs.declared.Taken.{Taken}
@@ -20,6 +19,9 @@ use Rattle.join.specs.State.{stateWith}
 use Rattle.join.specs.Calls.{Outcome, outcome}
 use Rattle.join.proofs.side_of.Reads as side-of
 use Rattle.join.proofs.Join.fresh.Reads as fresh
+use Rattle.join.proofs.Join.seen_from.Reads as seen-from
+use Rattle.join.proofs.Join.of.Reads as of
+use Rattle.join.proofs.Join.both_closed.Reads as both-closed
 use Rattle.join.proofs.Join.sound.Reads as sound
 use Rattle.join.proofs.Join.entry.Reads as entry
 use Rattle.join.proofs.Join.mark.Reads as mark
@@ -37,6 +39,15 @@ one-side-of = one-by-equation _ _
 
 one-fresh : OneResult fresh.Post
 one-fresh = one-by-equation _ _
+
+one-seen-from : OneResult seen-from.Post
+one-seen-from = one-by-equation _ _
+
+one-of : OneResult of.Post
+one-of = one-by-equation _ _
+
+one-both-closed : OneResult both-closed.Post
+one-both-closed = one-by-equation _ _
 
 one-sound : OneResult sound.Post
 one-sound κs args x y left other p q = agree (p .0) (q .0)
@@ -59,17 +70,13 @@ one-entry-on : OneOutcome {Seen = Outcome Answer} (λ κs r left. outcome (r .an
 one-entry-on = outcome-by-equation _ _
 
 -- A mark and a close are told of the queue only how many pairs wait: they leave what they leave for any places that hold so many, and there are such.
-blanks-hold : (waiting : Queue) → waiting .count ≤ queue.places → queue.Holds waiting (queue.rowsOf (replicate (waiting .count) (pairIn [])))
-blanks-hold waiting few =
-    stores-stored pairIn pairNumbers queue.places 8 pair-numbers (replicate (waiting .count) (pairIn [])) (waiting .count) (length-replicate (waiting .count) (pairIn [])) few
-
 one-moved : (waiting : Queue) → waiting .count ≤ queue.places → (x y : Called) (a b a′ b′ : Rows) (z : Rows → Outcome Answer)
     → ((rows : Rows) → queue.Holds waiting rows → outcome (x .answer) (stateWith (x .join) a b rows) ≡ z rows)
     → ((rows : Rows) → queue.Holds waiting rows → outcome (y .answer) (stateWith (y .join) a′ b′ rows) ≡ z rows)
     → _≡_ {A = Called × (Rows × Rows)} (x, (a, b)) (y, (a′, b′))
 one-moved waiting few x y a b a′ b′ z p q =
     let rows = queue.rowsOf (replicate (waiting .count) (pairIn [])) in
-    let e = agree (p rows (blanks-hold waiting few)) (q rows (blanks-hold waiting few)) in
+    let e = agree (p rows (spare-queue waiting few)) (q rows (spare-queue waiting few)) in
     λ i. (record { answer = e i .answer; join = e i .state .join }, (e i .state .inA, e i .state .inB))
 
 one-mark-on : OneOutcome {Seen = Called × (Rows × Rows)} (λ κs r left. (r, (now (left .1 .0), now (left .1 .1 .0)))) (λ κs args r left. mark-on.Pre κs args × mark-on.Post κs args r left)

@@ -1,30 +1,25 @@
 -- What each call answers and leaves, for every state and every argument.
-use Prim.Native.Nat.{ℕ, _+_}
+use Prim.Native.Nat.{ℕ}
 use mathlib.Core.Bool.{Bool, cond, not, _&&_}
 use mathlib.Core.List.{List, [], _∷_, _++_}
-use lib.Dec.{ltb, leb, eqb}
-use lib.ListN.{length, drop}
-use Rattle.interval.specs.Interval.{properOf}
+use lib.Dec.{ltb, eqb}
+use lib.ListN.{drop}
 use Rattle.lists.specs.Keep.{keep}
-use Rattle.lists.specs.Sort.{insertAllBy}
 use Rattle.lists.specs.Check.{Check, _gives_}
 use Rattle.pairing.specs.declared.Entry.{Entry}
-use Rattle.pairing.specs.declared.Numbered.{Numbered}
 use Rattle.pairing.specs.declared.Pair.{Pair}
 use Rattle.pairing.specs.declared.Side.{Side}
 use Rattle.pairing.specs.declared.Side.the-variants.{A, B}
-use Rattle.pairing.specs.Pair.{comesBefore}
-use Rattle.pairing.specs.Side.{newPairs}
 use Rattle.journal.specs.declared.Answer.{Answer}
-use Rattle.journal.specs.declared.Gate.{Gate}
 use Rattle.journal.specs.declared.Gate.the-variants.{Open, Closed}
 use Rattle.journal.specs.Answer.{firstOf, unlessRefused}
-use Rattle.journal.specs.Journal.{wanted, isClosed, isBehind, moved, entered, markRows}
-use Rattle.area.specs.Area as area
+use Rattle.journal.specs.Journal.{isClosed, markRows}
 use Rattle.queue.specs.Queue as queue
+use Rattle.halves.specs.Calls.{entryRows, afterEntry, afterMove, closeRows}
+use Rattle.join.specs.declared.Join.{Join}
 use Rattle.join.specs.declared.Took.{Took}
 use Rattle.join.specs.declared.Took.the-variants.{Handed, Waiting, Finished, Refused}
-use Rattle.join.specs.State.{State, View, view, stateOf, sound, entries}
+use Rattle.join.specs.State.{State, view, stateOf, sound}
 
 -- an answer, and the state after the call
 pub record Outcome (Answered : Type 0) : Type 0 where
@@ -48,37 +43,6 @@ judgeRows s stream = (not (sound s) gives 8) ∷ (ltb 1 stream gives 1) ∷ []
 
 -- ---- an entry
 
--- an entry that comes, with its ordinal
-abbrev pub arrival : View → Entry → Numbered
-arrival v e = record { entry = e; ordinal = v .own .accepted }
-
--- An accepted entry is paired with every entry held in the other area that it pairs with, also when it is itself not wanted.
-abbrev pub formed : Side → View → Entry → List Pair
-formed side v e = newPairs (v .rule) side (arrival v e) (v .others)
-
--- 2: that journal is closed. 3: start not below end. 4: start below the journal's clock. 5: 1,000,000 entries already accepted.
--- 6: the entry is wanted and its area already holds 64. 7: waiting pairs plus new pairs exceed 256.
-unfoldable pub entryRows : Side → View → Entry → List Check
-entryRows side v e =
-    (isClosed (v .own .gate) gives 2)
-    ∷ (not (properOf (e .span)) gives 3)
-    ∷ (isBehind (v .own .gate) (e .span .start) gives 4)
-    ∷ (leb entries (v .own .accepted) gives 5)
-    ∷ (wanted (v .other .gate) e && leb area.most (length (v .mine)) gives 6)
-    ∷ (ltb queue.places (length (v .waiting) + length (formed side v e)) gives 7)
-    ∷ []
-
--- its pairs wait, in order; its journal's clock is its start; the other area is cleared by that clock; it is held if wanted
-unfoldable pub afterEntry : Side → View → Entry → View
-afterEntry side v e = record {
-  rule = v .rule;
-  own = entered e (v .own);
-  other = v .other;
-  mine = v .mine ++ area.wantedBy (v .other .gate) (arrival v e ∷ []);
-  others = area.wantedBy (Open (e .span .start)) (v .others);
-  waiting = insertAllBy comesBefore (formed side v e) (v .waiting);
-}
-
 abbrev pub entryOn : State → Side → Entry → Outcome Answer
 entryOn s side e = called s (entryRows side (view side s) e) (stateOf side (afterEntry side (view side s) e))
 
@@ -89,17 +53,6 @@ entryCall s stream e =
 
 -- ---- a mark or a close
 
--- its own gate moves, and the other area is cleared by it
-unfoldable pub afterMove : Gate → View → View
-afterMove gate v = record {
-  rule = v .rule;
-  own = moved gate (v .own);
-  other = v .other;
-  mine = v .mine;
-  others = area.wantedBy gate (v .others);
-  waiting = v .waiting;
-}
-
 abbrev pub markOn : State → Side → ℕ → Outcome Answer
 markOn s side time = called s (markRows time (view side s .own)) (stateOf side (afterMove (Open time) (view side s)))
 
@@ -107,9 +60,6 @@ unfoldable pub markCall : State → ℕ → ℕ → Outcome Answer
 markCall s stream time =
     let side = sideOf stream in
     called s (judgeRows s stream ++ markRows time (view side s .own)) (stateOf side (afterMove (Open time) (view side s)))
-
-abbrev pub closeRows : View → List Check
-closeRows v = (isClosed (v .own .gate) gives 2) ∷ []
 
 abbrev pub closeOn : State → Side → Outcome Answer
 closeOn s side = called s (closeRows (view side s)) (stateOf side (afterMove Closed (view side s)))
@@ -133,8 +83,9 @@ readyIn s = queue.ready (s .join .a .journal .gate) (s .join .b .journal .gate)
 abbrev pub readyOf : State → List Pair
 readyOf s = keep (readyIn s) (waitingIn s)
 
-abbrev pub bothClosed : State → Bool
-bothClosed s = isClosed (s .join .a .journal .gate) && isClosed (s .join .b .journal .gate)
+-- both journals are closed
+abbrev pub bothClosed : Join → Bool
+bothClosed join = isClosed (join .a .journal .gate) && isClosed (join .b .journal .gate)
 
 -- A take hands out the first waiting pair if it is ready. With nothing ready it answers Finished when both journals are closed and nothing waits, else Waiting.
 abbrev pub nextOf : (Pair → Bool) → Bool → List Pair → Took
@@ -158,7 +109,7 @@ afterTake Finished s = s
 afterTake (Refused number) s = s
 
 abbrev pub takeOn : State → Outcome Took
-takeOn s = outcome (nextOf (readyIn s) (bothClosed s) (waitingIn s)) (afterTake (nextOf (readyIn s) (bothClosed s) (waitingIn s)) s)
+takeOn s = outcome (nextOf (readyIn s) (bothClosed (s .join)) (waitingIn s)) (afterTake (nextOf (readyIn s) (bothClosed (s .join)) (waitingIn s)) s)
 
 unfoldable pub takeCall : State → Outcome Took
 takeCall s = cond (sound s) (takeOn s) (outcome (Refused 8) s)

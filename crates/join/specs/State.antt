@@ -1,23 +1,17 @@
 -- The whole state of a join: the small part that goes by value, and the three runs of places that the caller lends.
-use Prim.Native.Nat.{ℕ}
 use mathlib.Core.Bool.{Bool, true, _&&_}
-use mathlib.Core.List.{List, []}
+use mathlib.Core.List.{[]}
 use mathlib.Core.Path.{_≡_}
 use lib.Dec.{leb}
-use Rattle.lists.specs.Judge.{chain}
 use Rattle.lists.specs.Store.{Rows}
-use Rattle.pairing.specs.declared.Numbered.{Numbered}
-use Rattle.pairing.specs.declared.Pair.{Pair}
 use Rattle.pairing.specs.declared.Rule.{Rule}
 use Rattle.pairing.specs.declared.Side.{Side}
 use Rattle.pairing.specs.declared.Side.the-variants.{A, B}
-use Rattle.pairing.specs.Pair.{comesBefore}
-use Rattle.journal.specs.declared.Journal.{Journal}
-use Rattle.journal.specs.Journal.{freshJournal}
+use Rattle.journal.specs.Journal.{entries, freshJournal}
 use Rattle.area.specs.Area as area
 use Rattle.queue.specs.Queue as queue
-use Rattle.queue.specs.declared.Queue.{Queue}
-use Rattle.join.specs.declared.Half.{Half}
+use Rattle.halves.specs.declared.Halves.{Halves}
+use Rattle.halves.specs.View.{View, seen, halvesOf}
 use Rattle.join.specs.declared.Join.{Join}
 
 pub record State : Type 0 where
@@ -29,10 +23,6 @@ pub record State : Type 0 where
 -- the state that a call is given, and the one that it leaves
 abbrev pub stateWith : Join → Rows → Rows → Rows → State
 stateWith join inA inB rows = record { join = join; inA = inA; inB = inB; rows = rows }
-
--- Limits: 1,000,000 accepted entries a journal.
-abbrev pub entries : ℕ
-entries = 1000000
 
 -- A state is sound when: counts are within limits; held entries and waiting pairs are sound; spare places are zero.
 unfoldable pub sound : State → Bool
@@ -50,71 +40,25 @@ pub record Sound (s : State) : Type 0 where
   pub holdsB : area.Holds (s .join .b .area) (s .inB)
   pub holdsQueue : queue.Holds (s .join .queue) (s .rows)
 
--- A state as the lists that it holds, seen from one of its journals: that one is `own`, the other is `other`.
-pub record View : Type 0 where
-  pub rule : Rule
-  pub own : Journal
-  pub other : Journal
-  pub mine : List Numbered
-  pub others : List Numbered
-  pub waiting : List Pair
+-- what a side sees of a join: its own half first
+abbrev pub seenFrom : Side → Join → Halves
+seenFrom A join = record { rule = join .rule; own = join .a; other = join .b; queue = join .queue }
+seenFrom B join = record { rule = join .rule; own = join .b; other = join .a; queue = join .queue }
 
--- two halves, the queue and their places as a view
-abbrev pub seen : Rule → Half → Half → Queue → Rows → Rows → Rows → View
-seen rule own other waiting mine others rows = record {
-  rule = rule;
-  own = own .journal;
-  other = other .journal;
-  mine = area.held (own .area) mine;
-  others = area.held (other .area) others;
-  waiting = queue.waiting waiting rows;
-}
+-- the join that a side sees so
+abbrev pub joinOf : Side → Halves → Join
+joinOf A halves = record { rule = halves .rule; a = halves .own; b = halves .other; queue = halves .queue }
+joinOf B halves = record { rule = halves .rule; a = halves .other; b = halves .own; queue = halves .queue }
 
--- what a side sees
+-- what a side sees of a state
 unfoldable pub view : Side → State → View
-view A s = seen (s .join .rule) (s .join .a) (s .join .b) (s .join .queue) (s .inA) (s .inB) (s .rows)
-view B s = seen (s .join .rule) (s .join .b) (s .join .a) (s .join .queue) (s .inB) (s .inA) (s .rows)
-
--- the journal of a side
-abbrev pub journalOf : Side → Join → Journal
-journalOf A join = join .a .journal
-journalOf B join = join .b .journal
-
--- a half that holds some entries
-abbrev pub halfOf : Journal → List Numbered → Half
-halfOf journal xs = record { journal = journal; area = area.areaOf xs }
+view A s = seen (seenFrom A (s .join)) (s .inA) (s .inB) (s .rows)
+view B s = seen (seenFrom B (s .join)) (s .inB) (s .inA) (s .rows)
 
 -- the one state that a side sees so. Places beyond a count hold zeros, so equal histories give equal states.
 unfoldable pub stateOf : Side → View → State
-stateOf A v = record {
-  join = record { rule = v .rule; a = halfOf (v .own) (v .mine); b = halfOf (v .other) (v .others); queue = queue.queueOf (v .waiting) };
-  inA = area.rowsOf (v .mine);
-  inB = area.rowsOf (v .others);
-  rows = queue.rowsOf (v .waiting);
-}
-stateOf B v = record {
-  join = record { rule = v .rule; a = halfOf (v .other) (v .others); b = halfOf (v .own) (v .mine); queue = queue.queueOf (v .waiting) };
-  inA = area.rowsOf (v .others);
-  inB = area.rowsOf (v .mine);
-  rows = queue.rowsOf (v .waiting);
-}
-
--- two halves and a queue whose places store what they hold, the held entries and the waiting pairs in order: what a call of either side needs of a sound state
-pub record Stand (own other : Half) (waiting : Queue) (mine others rows : Rows) : Type 0 where
-  pub holds-mine : area.Holds (own .area) mine
-  pub holds-others : area.Holds (other .area) others
-  pub holds-rows : queue.Holds waiting rows
-  pub others-follow : chain area.follows (area.held (other .area) others) ≡ true
-  pub in-order : chain comesBefore (queue.waiting waiting rows) ≡ true
-
--- two halves, a queue and their places that store a view
-pub record Leaves (v : View) (own other : Half) (waiting : Queue) (mine others rows : Rows) : Type 0 where
-  pub own-half : own ≡ halfOf (v .own) (v .mine)
-  pub other-half : other ≡ halfOf (v .other) (v .others)
-  pub count : waiting ≡ queue.queueOf (v .waiting)
-  pub mine-rows : mine ≡ area.rowsOf (v .mine)
-  pub others-rows : others ≡ area.rowsOf (v .others)
-  pub queue-rows : rows ≡ queue.rowsOf (v .waiting)
+stateOf A v = stateWith (joinOf A (halvesOf v)) (area.rowsOf (v .mine)) (area.rowsOf (v .others)) (queue.rowsOf (v .waiting))
+stateOf B v = stateWith (joinOf B (halvesOf v)) (area.rowsOf (v .others)) (area.rowsOf (v .mine)) (queue.rowsOf (v .waiting))
 
 -- a fresh join: both journals open at 0, nothing held, nothing waiting
 unfoldable pub freshState : Rule → State

@@ -5,7 +5,8 @@ use borrow.Author.Tests.{not-true, not-false}
 use Rattle.pairing.specs.declared.Side.{Side}
 use Rattle.journal.specs.declared.Gate.the-variants.{Closed}
 use Rattle.join.specs.State.{stateWith, view, stateOf}
-use Rattle.join.specs.Calls.{sideOf, afterMove, closeRows, closeOn, closeCall}
+use Rattle.halves.specs.Calls.{afterMove, closeRows}
+use Rattle.join.specs.Calls.{sideOf, closeOn, closeCall}
 use Rattle.join.proofs.Laws.{judged-unsound, judged-neither, judged-sound}
 use Rattle.join.proofs.Join.close.Statement.{statement}
 use Rattle.join.proofs.Join.close.Tie as tie

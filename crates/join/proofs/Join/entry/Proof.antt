@@ -4,7 +4,8 @@ use mathlib.Core.Path.{sym, ap, _∙_}
 use borrow.Author.Tests.{not-true, not-false}
 use Rattle.pairing.specs.declared.Side.{Side}
 use Rattle.join.specs.State.{stateWith, view, stateOf}
-use Rattle.join.specs.Calls.{sideOf, entryRows, afterEntry, entryOn, entryCall}
+use Rattle.halves.specs.Calls.{entryRows, afterEntry}
+use Rattle.join.specs.Calls.{sideOf, entryOn, entryCall}
 use Rattle.join.proofs.Laws.{judged-unsound, judged-neither, judged-sound}
 use Rattle.join.proofs.Join.entry.Statement.{statement}
 use Rattle.join.proofs.Join.entry.Tie as tie

@@ -6,7 +6,8 @@ use Rattle.pairing.specs.declared.Side.{Side}
 use Rattle.journal.specs.declared.Gate.the-variants.{Open}
 use Rattle.journal.specs.Journal.{markRows}
 use Rattle.join.specs.State.{stateWith, view, stateOf}
-use Rattle.join.specs.Calls.{sideOf, afterMove, markOn, markCall}
+use Rattle.halves.specs.Calls.{afterMove}
+use Rattle.join.specs.Calls.{sideOf, markOn, markCall}
 use Rattle.join.proofs.Laws.{judged-unsound, judged-neither, judged-sound}
 use Rattle.join.proofs.Join.mark.Statement.{statement}
 use Rattle.join.proofs.Join.mark.Tie as tie

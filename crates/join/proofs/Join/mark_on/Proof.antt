@@ -6,14 +6,14 @@ use Rattle.journal.specs.declared.Gate.the-variants.{Open}
 use Rattle.journal.specs.declared.Marked.{Marked}
 use Rattle.journal.specs.Answer.{firstOf}
 use Rattle.journal.specs.Journal.{markRows}
+use Rattle.halves.specs.Calls.{afterMove}
 use Rattle.join.specs.State.{stateWith, view, stateOf}
-use Rattle.join.specs.Calls.{afterMove}
-use Rattle.join.proofs.Laws.{view-own, called-refused, called-accepted}
+use Rattle.join.proofs.Laws.{own-seen, called-refused, called-accepted}
 use Rattle.join.proofs.Join.mark_on.Statement.{statement}
 use Rattle.join.proofs.Join.mark_on.Tie as tie
 
-journal-of-requires : tie.Need-journal-of-requires
-journal-of-requires c κs = search needs
+seen-from-requires : tie.Need-seen-from-requires
+seen-from-requires c κs = search needs
 
 mark-requires : tie.Need-mark-requires
 mark-requires c κs = search needs
@@ -27,12 +27,14 @@ enum-told-2 c = search needs
 returns : tie.Need-returns
 returns c =
     let asked = c .before .before in
-    let st = asked .before .before in
+    let looked = asked .before .before in
+    let st = looked .before in
     let answered = ap (λ (m : Marked). m .answer) (asked .mark .ensures) in
     λ rows q.
-    let s = (stateWith (st .args .self) (st .args .a .now) (st .args .b .now) rows) in
-    called-refused s (markRows (st .args .time) (view (st .args .side) s .own)) (stateOf (st .args .side) (afterMove (Open (st .args .time)) (view (st .args .side) s))) (asked .mark .result .answer)
-    (answered ∙ ap (λ (j : Journal). firstOf (markRows (st .args .time) j)) (asked .before .journal-of .ensures ∙ sym (view-own (st .args .side) s))) _ (c .enum-told2 .given .1)
+    let s = stateWith (st .args .self) (st .args .a .now) (st .args .b .now) rows in
+    let v = view (st .args .side) s in
+    called-refused s (markRows (st .args .time) (v .own)) (stateOf (st .args .side) (afterMove (Open (st .args .time)) v)) (asked .mark .result .answer)
+    (answered ∙ ap (λ (j : Journal). firstOf (markRows (st .args .time) j)) (own-seen (st .args .side) s (looked .seen-from .result) (looked .seen-from .ensures))) _ (c .enum-told2 .given .1)
 
 move-on-requires : tie.Need-move-on-requires
 move-on-requires c κs = search needs
@@ -41,18 +43,20 @@ returns-2 : tie.Need-returns-2
 returns-2 c =
     let told = c .before .before .before in
     let asked = told .before .before in
-    let st = asked .before .before in
+    let looked = asked .before .before in
+    let st = looked .before in
     let answered = ap (λ (m : Marked). m .answer) (asked .mark .ensures) in
     λ rows q.
-    let s = (stateWith (st .args .self) (st .args .a .now) (st .args .b .now) rows) in
-    called-accepted s (markRows (st .args .time) (view (st .args .side) s .own)) (stateOf (st .args .side) (afterMove (Open (st .args .time)) (view (st .args .side) s))) (asked .mark .result .answer)
-    (answered ∙ ap (λ (j : Journal). firstOf (markRows (st .args .time) j)) (asked .before .journal-of .ensures ∙ sym (view-own (st .args .side) s))) _ (told .enum-told .given .1) (c .move-on .ensures rows q)
+    let s = stateWith (st .args .self) (st .args .a .now) (st .args .b .now) rows in
+    let v = view (st .args .side) s in
+    called-accepted s (markRows (st .args .time) (v .own)) (stateOf (st .args .side) (afterMove (Open (st .args .time)) v)) (asked .mark .result .answer)
+    (answered ∙ ap (λ (j : Journal). firstOf (markRows (st .args .time) j)) (own-seen (st .args .side) s (looked .seen-from .result) (looked .seen-from .ensures))) _ (told .enum-told .given .1) (c .move-on .ensures rows q)
 
 pub mark-on-spec : {M : Type 1} → statement M
 mark-on-spec =
     tie.close
     (tie.spec
-    journal-of-requires
+    seen-from-requires
     mark-requires
     enum-told
     enum-told-2
