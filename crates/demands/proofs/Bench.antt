@@ -8,12 +8,14 @@ use Rattle.pairing.specs.Pair.{pairs, partnerOf, pairOf, comesBefore}
 use Rattle.pairing.specs.Plain.{coupleThat, couplesThat}
 use Rattle.pairing.specs.Rule.{distance, fits}
 use Rattle.pairing.specs.Numbers.{pairNumbers, pairIn}
+use Rattle.journal.specs.Journal.{ownRows}
 use Rattle.area.specs.Area.{heldIn, rowOf, soundArea}
 use Rattle.queue.specs.Queue.{soundQueue, ready}
+use Rattle.halves.specs.Calls.{roomFor, entryRows, afterEntry, afterMove}
 use Rattle.join.specs.State.{view, stateOf, sound, freshState}
-use Rattle.join.specs.Calls.{entryRows, afterEntry, entryCall, afterMove, markCall, closeCall, takeCall, without}
+use Rattle.join.specs.Calls.{entryCall, markCall, closeCall, takeCall, without}
 use Rattle.demands.specs.Bench.{table, Benches}
 
 pub benches : Benches
-unfolding flatMap properOf meetingOf ascending neither padTo pairs partnerOf pairOf comesBefore coupleThat couplesThat distance fits heldIn rowOf soundArea pairIn pairNumbers soundQueue ready view stateOf sound freshState entryRows afterEntry entryCall afterMove markCall closeCall takeCall without table
+unfolding flatMap properOf meetingOf ascending neither padTo pairs partnerOf pairOf comesBefore coupleThat couplesThat distance fits heldIn rowOf soundArea pairIn pairNumbers soundQueue ready view stateOf sound freshState ownRows roomFor entryRows afterEntry entryCall afterMove markCall closeCall takeCall without table
 benches = refl

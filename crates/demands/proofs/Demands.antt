@@ -20,13 +20,17 @@ use Rattle.pairing.specs.Plain.{plain}
 use Rattle.pairing.proofs.Plain.{plain-at}
 use Rattle.journal.specs.declared.Answer.{Answer}
 use Rattle.journal.specs.declared.Answer.the-variants as answer
+use Rattle.journal.specs.declared.Gate.{Gate}
 use Rattle.journal.specs.declared.Gate.the-variants.{Open}
 use Rattle.journal.specs.Journal.{isClosed, markRows}
-use Rattle.journal.proofs.Rows.{accepted-rows}
+use Rattle.journal.proofs.Facts.{mark-met}
 use Rattle.queue.specs.Queue.{ready}
+use Rattle.halves.specs.Calls.{entryRows, afterMove, closeRows}
+use Rattle.halves.proofs.Facts.{entry-met, close-met}
 use Rattle.join.specs.declared.Took.the-variants.{Handed, Waiting, Finished, Refused}
 use Rattle.join.specs.State.{State, view, sound}
-use Rattle.join.specs.Calls.{sideOf, entryRows, judgeRows, closeRows, afterMove, entryCall, markCall, closeCall, takeCall, takeOn, nextOf, waitingIn, readyIn, bothClosed}
+use Rattle.join.specs.Calls.{sideOf, entryCall, markCall, closeCall, takeCall, takeOn, nextOf, waitingIn, readyIn, bothClosed}
+use Rattle.join.proofs.Facts.{judged-met}
 use Rattle.join.proofs.View.{view-stateOf}
 use Rattle.demands.specs.Demands.{pairsOf, EachInstant, Joins, TermsOnce, Multiplies, HoldsWanted, CountsAccepted, plainOf, FirstStretch, BelowClocks, Whole, FinishedWhole, NoMore, OnlyTakes, Agree, RuleStays, acceptedOf, StartsFrom, Demands, ran}
 use Rattle.demands.specs.History.{Call, Enter, Mark, Close, Take, World, begin, step, run, isRefusal}
@@ -42,39 +46,36 @@ run-append w (c ∷ cs) more = run-append (step w c) cs more
 
 -- ---- with both journals closed
 
-closed-side : (side : Side) (s : State) → bothClosed s ≡ true → isClosed (view side s .own .gate) ≡ true
+closed-side : (side : Side) (s : State) → bothClosed (s .join) ≡ true → isClosed (view side s .own .gate) ≡ true
 unfolding view
 closed-side A s h = and-left (isClosed (s .join .a .journal .gate)) (isClosed (s .join .b .journal .gate)) h
 closed-side B s h = and-right (isClosed (s .join .a .journal .gate)) (isClosed (s .join .b .journal .gate)) h
 
 -- the row of 2 applies, so no entry, mark or close is accepted
+closed-refuses : (gate : Gate) → isClosed gate ≡ true → (a : Answer) → (a ≡ answer.Accepted → isClosed gate ≡ false) → isRefusal a ≡ true
+closed-refuses gate h answer.Accepted f = absurd (true≢false (sym h ∙ f refl))
+closed-refuses gate h (answer.Refused number) f = refl
+
 only-takes : (w : World) → OnlyTakes w
-unfolding entryCall markCall closeCall entryRows
-only-takes w h (Enter stream e) = go (entryCall (w .state) stream e .answer) refl
-  where
-    go : (a : Answer) → entryCall (w .state) stream e .answer ≡ a → isRefusal a ≡ true
-    go answer.Accepted k =
-        let v = view (sideOf stream) (w .state) in
-        absurd (true≢false (sym (closed-side (sideOf stream) (w .state) h) ∙ accepted-rows (judgeRows (w .state) stream ++ entryRows (sideOf stream) v e) k .1 .1 .0))
-    go (answer.Refused number) k = refl
-only-takes w h (Mark stream time) = go (markCall (w .state) stream time .answer) refl
-  where
-    go : (a : Answer) → markCall (w .state) stream time .answer ≡ a → isRefusal a ≡ true
-    go answer.Accepted k =
-        let v = view (sideOf stream) (w .state) in
-        absurd (true≢false (sym (closed-side (sideOf stream) (w .state) h) ∙ accepted-rows (judgeRows (w .state) stream ++ markRows time (v .own)) k .1 .1 .0))
-    go (answer.Refused number) k = refl
-only-takes w h (Close stream) = go (closeCall (w .state) stream .answer) refl
-  where
-    go : (a : Answer) → closeCall (w .state) stream .answer ≡ a → isRefusal a ≡ true
-    go answer.Accepted k =
-        let v = view (sideOf stream) (w .state) in
-        absurd (true≢false (sym (closed-side (sideOf stream) (w .state) h) ∙ accepted-rows (judgeRows (w .state) stream ++ closeRows v) k .1 .1 .0))
-    go (answer.Refused number) k = refl
+unfolding entryCall markCall closeCall
+only-takes w h (Enter stream e) =
+    let side = sideOf stream in
+    let v = view side (w .state) in
+    closed-refuses (v .own .gate) (closed-side side (w .state) h) (entryCall (w .state) stream e .answer)
+    (λ k. entry-met side v e (judged-met (w .state) stream (entryRows side v e) k .rest) .own .timely .isOpen)
+only-takes w h (Mark stream time) =
+    let side = sideOf stream in
+    let v = view side (w .state) in
+    closed-refuses (v .own .gate) (closed-side side (w .state) h) (markCall (w .state) stream time .answer)
+    (λ k. mark-met time (v .own) (judged-met (w .state) stream (markRows time (v .own)) k .rest) .isOpen)
+only-takes w h (Close stream) =
+    let side = sideOf stream in
+    let v = view side (w .state) in
+    closed-refuses (v .own .gate) (closed-side side (w .state) h) (closeCall (w .state) stream .answer) (λ k. close-met v (judged-met (w .state) stream (closeRows v) k .rest))
 only-takes w h Take = refl
 
 -- what Finished says
-finished : (s : State) → takeCall s .answer ≡ Finished → (bothClosed s ≡ true) × (waitingIn s ≡ [])
+finished : (s : State) → takeCall s .answer ≡ Finished → (bothClosed (s .join) ≡ true) × (waitingIn s ≡ [])
 unfolding takeCall
 finished s h = go (sound s) h
   where
@@ -87,7 +88,7 @@ finished s h = go (sound s) h
     never-handed : (p : Pair) → Handed p ≡ Finished → ⊥
     never-handed p e = let z : _≡_ {A = ℕ} 0 1 = cc in omega arith
 
-    empty : (b : Bool) → bothClosed s ≡ b → cond b Finished Waiting ≡ Finished → bothClosed s ≡ true
+    empty : (b : Bool) → bothClosed (s .join) ≡ b → cond b Finished Waiting ≡ Finished → bothClosed (s .join) ≡ true
     empty true e k = e
     empty false e k = absurd (never-waiting k)
 
@@ -95,11 +96,11 @@ finished s h = go (sound s) h
     full true p k = never-handed p k
     full false p k = never-waiting k
 
-    looked : (ps : List Pair) → waitingIn s ≡ ps → nextOf (readyIn s) (bothClosed s) ps ≡ Finished → (bothClosed s ≡ true) × (waitingIn s ≡ [])
-    looked [] e k = (empty (bothClosed s) refl k, e)
+    looked : (ps : List Pair) → waitingIn s ≡ ps → nextOf (readyIn s) (bothClosed (s .join)) ps ≡ Finished → (bothClosed (s .join) ≡ true) × (waitingIn s ≡ [])
+    looked [] e k = (empty (bothClosed (s .join)) refl k, e)
     looked (p ∷ ps) e k = absurd (full (readyIn s p) p k)
 
-    go : (b : Bool) → cond b (takeOn s) (record { answer = Refused 8; state = s }) .answer ≡ Finished → (bothClosed s ≡ true) × (waitingIn s ≡ [])
+    go : (b : Bool) → cond b (takeOn s) (record { answer = Refused 8; state = s }) .answer ≡ Finished → (bothClosed (s .join) ≡ true) × (waitingIn s ≡ [])
     go true k = looked (waitingIn s) refl k
     go false k = absurd (never-refused k)
 

@@ -22,15 +22,18 @@ use Rattle.journal.specs.declared.Gate.the-variants.{Open, Closed}
 use Rattle.journal.specs.Answer.{unlessRefused}
 use Rattle.journal.specs.Journal.{below, isClosed}
 use Rattle.queue.specs.Queue.{ready}
+use Rattle.halves.specs.View.{View}
+use Rattle.halves.specs.Calls.{arrival, formed, afterEntry, afterMove}
+use Rattle.halves.proofs.View.{turned}
 use Rattle.join.specs.declared.Took.the-variants as took
-use Rattle.join.specs.State.{State, View, view, stateOf, sound}
-use Rattle.join.specs.Calls.{sideOf, arrival, formed, afterEntry, afterMove, entryCall, markCall, closeCall, takeCall, takeOn, waitingIn, readyIn, bothClosed, nextOf, without, afterTake}
+use Rattle.join.specs.State.{State, view, stateOf, sound}
+use Rattle.join.specs.Calls.{sideOf, entryCall, markCall, closeCall, takeCall, takeOn, waitingIn, readyIn, bothClosed, nextOf, without, afterTake}
 use Rattle.demands.specs.Demands.{acceptedOf}
 use Rattle.demands.specs.History.{Call, Enter, Mark, Close, Take, ofSide, handedBy, World, step, run}
 use Rattle.journal.proofs.Onward.{Onward, onward-same, onward-trans, onward-closed, below-onward, below-ahead}
 use Rattle.demands.proofs.Invariant.{new-starts, entry-later, mark-later}
 use Rattle.queue.proofs.Sound.{waiting-stored}
-use Rattle.join.proofs.View.{view-stateOf, turned, view-across}
+use Rattle.join.proofs.View.{view-stateOf, view-across}
 
 -- ---- entries that come while a gate moves
 
@@ -203,8 +206,8 @@ module _ (s : State) (ofA ofB : List Entry) (out : List Pair) where
         enteredOther = entered-none (s .join .b .journal .gate) ofB;
       }
 
-  taken : (ps : List Pair) → waitingIn s ≡ ps → Next A s ofA ofB out (afterTake (nextOf (readyIn s) (bothClosed s) ps) s) ofA ofB (out ++ handedBy (nextOf (readyIn s) (bothClosed s) ps))
-  taken [] e = go (bothClosed s)
+  taken : (ps : List Pair) → waitingIn s ≡ ps → Next A s ofA ofB out (afterTake (nextOf (readyIn s) (bothClosed (s .join)) ps) s) ofA ofB (out ++ handedBy (nextOf (readyIn s) (bothClosed (s .join)) ps))
+  taken [] e = go (bothClosed (s .join))
     where
       go : (b : Bool) → Next A s ofA ofB out (afterTake (cond b took.Finished took.Waiting) s) ofA ofB (out ++ handedBy (cond b took.Finished took.Waiting))
       go true = same

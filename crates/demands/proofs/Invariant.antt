@@ -34,14 +34,19 @@ use Rattle.journal.specs.Answer.{unlessRefused}
 use Rattle.journal.specs.Journal.{wanted, below, markRows}
 use Rattle.area.specs.Area.{wantedBy}
 use Rattle.queue.specs.Queue.{ready}
+use Rattle.halves.specs.View.{View}
+use Rattle.halves.specs.Calls.{arrival, formed, entryRows, afterEntry, afterMove}
+use Rattle.halves.proofs.Facts.{entry-met}
+use Rattle.halves.proofs.View.{turned}
 use Rattle.join.specs.declared.Took.the-variants as took
-use Rattle.join.specs.State.{State, View, view, stateOf, sound, freshState}
-use Rattle.join.specs.Calls.{sideOf, arrival, formed, entryRows, afterEntry, afterMove, judgeRows, entryCall, markCall, closeCall, takeCall, takeOn, waitingIn, readyIn, bothClosed, nextOf, without, afterTake}
+use Rattle.join.specs.State.{State, view, stateOf, sound, freshState}
+use Rattle.join.specs.Calls.{sideOf, entryCall, markCall, closeCall, takeCall, takeOn, waitingIn, readyIn, bothClosed, nextOf, without, afterTake}
 use Rattle.demands.specs.History.{Call, Enter, Mark, Close, Take, ofSide, handedBy, World, begin, step, run}
-use Rattle.journal.proofs.Rows.{accepted-rows}
-use Rattle.journal.proofs.Onward.{Onward, onward-closed, onward-open, below-onward, wanted-onward, below-before, wanted-after}
+use Rattle.journal.proofs.Facts.{timely-onward, mark-met}
+use Rattle.join.proofs.Facts.{judged-met}
+use Rattle.journal.proofs.Onward.{Onward, onward-closed, below-onward, wanted-onward, below-before, wanted-after}
 use Rattle.queue.proofs.Sound.{waiting-stored}
-use Rattle.join.proofs.View.{view-stateOf, turned, view-across}
+use Rattle.join.proofs.View.{view-stateOf, view-across}
 
 -- the plain list, the entries of one side named first
 abbrev pub plainFrom : Side → Rule → List Entry → List Entry → List Pair
@@ -234,8 +239,8 @@ module _ (rule : Rule) (s : State) (ofA ofB : List Entry) (out : List Pair) (g :
             ((and-left (below (s .join .a .journal .gate) start) (below (s .join .b .journal .gate) start) r, and-right (below (s .join .a .journal .gate) start) (below (s .join .b .journal .gate) start) r), tt);
       }
 
-  taken : (ps : List Pair) → waitingIn s ≡ ps → Kept rule A (afterTake (nextOf (readyIn s) (bothClosed s) ps) s) ofA ofB (out ++ handedBy (nextOf (readyIn s) (bothClosed s) ps))
-  taken [] e = go (bothClosed s)
+  taken : (ps : List Pair) → waitingIn s ≡ ps → Kept rule A (afterTake (nextOf (readyIn s) (bothClosed (s .join)) ps) s) ofA ofB (out ++ handedBy (nextOf (readyIn s) (bothClosed (s .join)) ps))
+  taken [] e = go (bothClosed (s .join))
     where
       go : (b : Bool) → Kept rule A (afterTake (cond b took.Finished took.Waiting) s) ofA ofB (out ++ handedBy (cond b took.Finished took.Waiting))
       go true = same
@@ -257,18 +262,17 @@ module _ (rule : Rule) (s : State) (ofA ofB : List Entry) (out : List Pair) (g :
 -- ---- any call
 
 pub entry-later : (s : State) (stream : ℕ) (e : Entry) → entryCall s stream e .answer ≡ Accepted → Onward (view (sideOf stream) s .own .gate) (Open (e .span .start))
-unfolding entryCall entryRows
+unfolding entryCall
 entry-later s stream e h =
-    let v = view (sideOf stream) s in
-    let q = accepted-rows (judgeRows s stream ++ entryRows (sideOf stream) v e) h in
-    onward-open (v .own .gate) (e .span .start) (q .1 .1 .0) (q .1 .1 .1 .1 .0)
+    let side = sideOf stream in
+    let v = view side s in
+    timely-onward (v .own .gate) (e .span .start) (entry-met side v e (judged-met s stream (entryRows side v e) h .rest) .own .timely)
 
 pub mark-later : (s : State) (stream time : ℕ) → markCall s stream time .answer ≡ Accepted → Onward (view (sideOf stream) s .own .gate) (Open time)
 unfolding markCall
 mark-later s stream time h =
     let v = view (sideOf stream) s in
-    let q = accepted-rows (judgeRows s stream ++ markRows time (v .own)) h in
-    onward-open (v .own .gate) time (q .1 .1 .0) (q .1 .1 .1 .0)
+    timely-onward (v .own .gate) time (mark-met time (v .own) (judged-met s stream (markRows time (v .own)) h .rest))
 
 abbrev pub GoodWorld : Rule → World → Type 0
 GoodWorld rule w = Kept rule A (w .state) (w .ofA) (w .ofB) (w .out)

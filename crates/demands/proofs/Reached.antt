@@ -11,11 +11,12 @@ use Rattle.lists.specs.Check.{Check, _gives_}
 use Rattle.pairing.specs.declared.Pair.{Pair}
 use Rattle.pairing.specs.declared.Rule.{Rule}
 use Rattle.journal.specs.Answer.{numberOf, firstOf}
-use Rattle.journal.specs.Journal.{markRows}
+use Rattle.journal.specs.Journal.{markRows, ownRows}
 use Rattle.journal.proofs.Rows.{number-rows}
+use Rattle.halves.specs.Calls.{roomFor, entryRows, closeRows}
 use Rattle.join.specs.declared.Took.the-variants.{Handed, Waiting}
 use Rattle.join.specs.State.{State, Sound, view}
-use Rattle.join.specs.Calls.{sideOf, judgeRows, entryRows, closeRows, entryCall, markCall, closeCall, readyIn, bothClosed, waitingIn, nextOf, takeOn, takeCall, tookNumber}
+use Rattle.join.specs.Calls.{sideOf, judgeRows, entryCall, markCall, closeCall, readyIn, bothClosed, waitingIn, nextOf, takeOn, takeCall, tookNumber}
 use Rattle.join.proofs.Kept.{sound-fresh, entry-kept, mark-kept, close-kept, take-kept}
 use Rattle.join.proofs.Ready.{take-sound}
 use Rattle.demands.specs.History.{Call, Enter, Mark, Close, Take, after, World, begin, step, run}
@@ -61,12 +62,12 @@ next-number ready closed (p ∷ ps) = go (ready p)
 
 -- a call on a sound state gets a number below 8
 pub sound-number : (s : State) → Sound s → (c : Call) → numberAt s c < 8
-unfolding entryCall entryRows markCall closeCall
+unfolding entryCall ownRows roomFor entryRows markCall closeCall
 sound-number s h (Enter stream e) = judged-number s h stream (entryRows (sideOf stream) (view (sideOf stream) s) e) refl
 sound-number s h (Mark stream time) = judged-number s h stream (markRows time (view (sideOf stream) s .own)) refl
 sound-number s h (Close stream) = judged-number s h stream (closeRows (view (sideOf stream) s)) refl
 sound-number s h Take =
-    let none : tookNumber (takeOn s .answer) ≡ 0 = next-number (readyIn s) (bothClosed s) (waitingIn s) in
+    let none : tookNumber (takeOn s .answer) ≡ 0 = next-number (readyIn s) (bothClosed (s .join)) (waitingIn s) in
     rw (take-sound s h) (omega arith)
 
 -- no call of a history is answered with 8

@@ -33,7 +33,7 @@ after-refused s Take h = go (sound s) h
     kept (Refused number) k = refl
 
     go : (b : Bool) → isTakeRefusal (cond b (takeOn s) (record { answer = Refused 8; state = s }) .answer) ≡ true → cond b (takeOn s) (record { answer = Refused 8; state = s }) .state ≡ s
-    go true k = kept (nextOf (readyIn s) (bothClosed s) (waitingIn s)) k
+    go true k = kept (nextOf (readyIn s) (bothClosed (s .join)) (waitingIn s)) k
     go false k = refl
 
 accepts-refused : (side : Side) (s : State) (c : Call) → refused s c ≡ true → accepts side s c ≡ []

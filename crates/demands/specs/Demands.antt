@@ -72,7 +72,7 @@ module _ (rule : Rule) (w later : World) where
 
   -- both closed and nothing waiting: the whole list
   abbrev pub Whole : Type 0
-  Whole = bothClosed (w .state) ≡ true → waitingIn (w .state) ≡ [] → w .out ≡ plainOf rule later
+  Whole = bothClosed (w .state .join) ≡ true → waitingIn (w .state) ≡ [] → w .out ≡ plainOf rule later
 
   -- a take that answers Finished says so
   abbrev pub FinishedWhole : Type 0
@@ -85,7 +85,7 @@ NoMore w later =
 
 -- with both closed, every call but a take is refused
 abbrev pub OnlyTakes : World → Type 0
-OnlyTakes w = bothClosed (w .state) ≡ true → (c : Call) → isTake c || refused (w .state) c ≡ true
+OnlyTakes w = bothClosed (w .state .join) ≡ true → (c : Call) → isTake c || refused (w .state) c ≡ true
 
 -- two histories with the same accepted entries in each journal and nothing waiting, as when both are closed and emptied, handed out the same list, however they interleaved
 abbrev pub Agree : World → World → Type 0

@@ -39,11 +39,11 @@ use Rattle.halves.proofs.View.{mine-length, others-length, waiting-leng
 -- ---- the new pairs of an entry
 
 -- they are as many as its partners
-pub formed-count : (rule : Rule) (side : Side) (x : Numbered) (others : List Numbered) → length (newPairs rule side x others) ≡ length (area.partners rule (x .entry) others)
+formed-count : (rule : Rule) (side : Side) (x : Numbered) (others : List Numbered) → length (newPairs rule side x others) ≡ length (area.partners rule (x .entry) others)
 formed-count rule side x others = ap length (newPairs-map rule side x others) ∙ length-map (area.partners rule (x .entry) others) (pairFrom side x)
 
 -- and no more than the entries that are looked at
-pub partners-few : (rule : Rule) (e : Entry) (xs : List Numbered) → length (area.partners rule e xs) ≤ length xs
+partners-few : (rule : Rule) (e : Entry) (xs : List Numbered) → length (area.partners rule e xs) ≤ length xs
 partners-few rule e xs = keep-length (λ (x : Numbered). pairs rule e (x .entry)) xs
 
 -- they come in ascending order, as the held entries follow one another

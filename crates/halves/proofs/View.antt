@@ -1,6 +1,5 @@
 -- What is stored is seen, and what is seen is stored.
-use Prim.Native.Nat.{ℕ}
-use mathlib.Core.Path.{_≡_, refl, sym, ap}
+use mathlib.Core.Path.{_≡_, sym, ap}
 use lib.ListN.{length}
 use Rattle.lists.specs.Store.{Rows}
 use Rattle.pairing.specs.declared.Side.{Side}

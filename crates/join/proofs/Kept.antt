@@ -19,7 +19,6 @@ use Rattle.journal.proofs.Facts.{timely-onward, mark-met}
 use Rattle.journal.proofs.Onward.{onward-closed}
 use Rattle.journal.proofs.Rows.{unless-refused}
 use Rattle.area.proofs.Sound as areas
-use Rattle.queue.specs.Queue as queue
 use Rattle.queue.proofs.Sound as queues
 use Rattle.halves.specs.View.{View}
 use Rattle.halves.specs.Calls.{entryRows, afterEntry, afterMove, closeRows}
@@ -30,7 +29,7 @@ use Rattle.join.specs.declared.Took.{Took}
 use Rattle.join.specs.declared.Took.the-variants.{Handed, Waiting, Finished, Refused}
 use Rattle.join.specs.State.{State, sound, Sound, view, stateOf, freshState}
 use Rattle.join.specs.Calls.{called, sideOf, judgeRows, entryOn, entryCall, markOn, markCall, closeOn, closeCall, waitingIn, readyIn, bothClosed, nextOf, without, afterTake, takeOn, takeCall}
-use Rattle.join.proofs.Facts.{Parts, sound-parts, parts-sound, judged-met}
+use Rattle.join.proofs.Facts.{sound-parts, parts-sound, judged-met}
 use Rattle.join.proofs.View.{view-across, stateOf-across}
 
 -- ---- soundness of what a side sees

@@ -70,7 +70,7 @@ own-seen A s halves e = ap (λ (h : Halves). h .own .journal) e
 own-seen B s halves e = ap (λ (h : Halves). h .own .journal) e
 
 -- an answer, and the state that a side sees after it, are those of the call
-pub called-seen : (side : Side) (s : State) → Sound s → (rows : List Check) (after : View) (answer : Answer) → answer ≡ firstOf rows
+called-seen : (side : Side) (s : State) → Sound s → (rows : List Check) (after : View) (answer : Answer) → answer ≡ firstOf rows
     → outcome answer (stateOf side (unlessRefused answer after (view side s))) ≡ called s rows (stateOf side after)
 called-seen side s ok rows after answer e = ap (λ (a : Answer). outcome a (stateOf side (unlessRefused a after (view side s)))) e ∙ ap (outcome (firstOf rows)) (go (firstOf rows))
   where

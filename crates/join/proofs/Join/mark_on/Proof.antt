@@ -1,6 +1,6 @@
 -- `mark_on` meets its contract: the mark of the journal alone decides, and an accepted one moves the gate.
 use borrow.Author.Needs.{needs}
-use mathlib.Core.Path.{sym, ap, _∙_}
+use mathlib.Core.Path.{ap, _∙_}
 use Rattle.journal.specs.declared.Journal.{Journal}
 use Rattle.journal.specs.declared.Gate.the-variants.{Open}
 use Rattle.journal.specs.declared.Marked.{Marked}
