@@ -39,6 +39,13 @@ close = record { number = 3; shortest = 4; longest = 4; fields = u16 ∷ [] }
 abbrev pub note : Kind
 note = record { number = 4; shortest = 2; longest = 66; fields = [] }
 
+-- the shortest and the longest record with its two length bytes: a note without text, and one of 64 bytes
+abbrev pub shortestRecord : ℕ
+shortestRecord = 2 + note .shortest
+
+abbrev pub longestRecord : ℕ
+longestRecord = 2 + note .longest
+
 -- start, end, A ordinal, B ordinal, A key, B key, A value, B value u32
 abbrev pub pair : Kind
 pair = record { number = 257; shortest = 34; longest = 34; fields = u32 ∷ u32 ∷ u32 ∷ u32 ∷ u32 ∷ u32 ∷ u32 ∷ u32 ∷ [] }

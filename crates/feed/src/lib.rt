@@ -32,6 +32,9 @@ pub const NOTE_SHORTEST: u16 = 2;
 
 pub const NOTE_LONGEST: u16 = 66;
 
+// The longest record with its two length bytes.
+pub const LONGEST_RECORD: usize = 2 + NOTE_LONGEST as usize;
+
 pub const PAIR: u16 = 257;
 
 pub const PAIR_LENGTH: u16 = 34;

@@ -33,8 +33,9 @@ use Rattle.feed.specs.declared.Reading.the-variants.{Found, Refused as refusedR
 use Rattle.feed.specs.declared.Record.{Record}
 use Rattle.feed.specs.Reading.{reading}
 use Rattle.feed.proofs.Readings.{found-ends}
+use Rattle.framing.specs.Program.{nextOf, deed, continued, printedFrom, printedBy}
 use Rattle.lines.specs.Line.{line}
-use Rattle.steps.specs.Printed.{Progress, pairLine, pairLines, doneWord, openWord, endLine, refusedLine, heard, onward, answered, deed, continued, printedFrom, printed}
+use Rattle.steps.specs.Printed.{Progress, pairLine, pairLines, doneWord, openWord, endLine, refusedLine, heard, onward, answered, joinfeed, printed}
 use Rattle.feed_demands.specs.Records.{recordsAt, recordsFrom, recordsOf, entryIn, entriesIn, plainIn}
 use Rattle.feed_demands.specs.Course.{callOf, callsOf, Stop, FeedEnds, Refusal, Course, stops, goesOn, answeredBy, courseAt, courseFrom, courseOf}
 use Rattle.feed_demands.specs.Prints.{worldOf, standing, lastLine, Prints}
@@ -95,12 +96,12 @@ module _ (k : ℕ) (w : World) where
 abbrev TellsFrom : ℕ → Type 0
 TellsFrom n =
     (k : ℕ) (w : World) → Sound (w .state) → readyNow w ≡ [] → (rest : List ℕ) → length rest < n
-    → Tells k w (printedFrom n (standing k w) rest) (recordsFrom n rest) (courseFrom n w rest)
+    → Tells k w (printedFrom joinfeed n (standing k w) rest) (recordsFrom n rest) (courseFrom n w rest)
 
 -- at a place of the feed, if it is so at all later ones
 module _ (n : ℕ) (again : TellsFrom n) (k : ℕ) (w : World) (h : Sound (w .state)) (none : readyNow w ≡ []) (rest : List ℕ) (few : length rest < suc n) where
   with-answer : (found : Record) (next : ℕ) → (4 ≤ next) × (next ≤ length rest) → (x : Answer) → heard (w .state) found .answer ≡ x
-      → Tells k w (continued (printedFrom n) rest (answered (standing k w) next x (heard (w .state) found .state))) (found ∷ recordsFrom n (drop next rest))
+      → Tells k w (continued (printedFrom joinfeed n) rest next (answered (standing k w) x (heard (w .state) found .state))) (found ∷ recordsFrom n (drop next rest))
       (answeredBy x found (goesOn found (callsOf w found) (courseFrom n (run w (callsOf w found)) (drop next rest))))
   with-answer found next within Accepted a =
       let v = run w (callsOf w found) in
@@ -110,8 +111,7 @@ module _ (n : ℕ) (again : TellsFrom n) (k : ℕ) (w : World) (h : Sound (w .st
   with-answer found next within (Refused number) a =
       stopped k w none (callOf found) (Refusal number) (call-refused w found number a) (found ∷ recordsFrom n (drop next rest)) (λ e. absurd (let z : _≡_ {A = ℕ} 0 1 = cc in omega arith))
 
-  with-reading : (r : Reading) → reading rest 0 ≡ r → Tells k w (continued (printedFrom n) rest (deed (standing k w) r)) (recordsAt (recordsFrom n) rest r) (courseAt (courseFrom n) w rest r)
-  unfolding deed
+  with-reading : (r : Reading) → reading rest 0 ≡ r → Tells k w (continued (printedFrom joinfeed n) rest (nextOf r) (deed joinfeed (standing k w) r)) (recordsAt (recordsFrom n) rest r) (courseAt (courseFrom n) w rest r)
   with-reading (Found found next) e = with-answer found next (found-ends rest 0 e) (heard (w .state) found .answer) refl
   with-reading (refusedReading number place) e = stopped k w none [] (Refusal number) refl [] (λ s. refl)
   with-reading End e = stopped k w none [] FeedEnds refl [] (λ s. refl)
@@ -151,7 +151,7 @@ done-line w n closed = rw closed
 
 -- For every rule, feed and limit.
 pub prints : (rule : Rule) (limit : ℕ) (feed : List ℕ) → Prints rule limit feed
-unfolding printed recordsOf courseOf flatMap
+unfolding printedBy recordsOf courseOf flatMap
 prints rule limit feed =
     let c : Course = courseOf rule limit feed in
     let w = worldOf rule c in

@@ -1,1 +1,5 @@
+pub mod Moves
+pub mod Steps
+pub mod Text
+pub mod Windows
 pub mod Unique

@@ -1,8 +1,8 @@
 -- What joinfeed prints of a feed, from its first byte to its last line.
-use Prim.Native.Nat.{ℕ, zero, suc, _+_}
+use Prim.Native.Nat.{ℕ, suc, _+_}
 use mathlib.Core.Bool.{cond}
 use mathlib.Core.List.{List, [], _∷_, _++_, flatMap}
-use lib.ListN.{length, take, drop}
+use lib.ListN.{length}
 use Rattle.pairing.specs.declared.Pair.{Pair}
 use Rattle.pairing.specs.declared.Rule.{Rule}
 use Rattle.pairing.specs.Numbers.{pairNumbers}
@@ -10,11 +10,9 @@ use Rattle.journal.specs.declared.Answer.{Answer}
 use Rattle.journal.specs.declared.Answer.the-variants.{Accepted, Refused}
 use Rattle.join.specs.State.{State, freshState}
 use Rattle.join.specs.Calls.{Outcome, outcome, entryCall, markCall, closeCall, readyOf, bothClosed, without}
-use Rattle.feed.specs.declared.Reading.{Reading}
-use Rattle.feed.specs.declared.Reading.the-variants.{Found, Refused as refusedReading, End}
 use Rattle.feed.specs.declared.Record.{Record}
 use Rattle.feed.specs.declared.Record.the-variants.{Entry, Mark, Close, Note}
-use Rattle.feed.specs.Reading.{reading}
+use Rattle.framing.specs.Program.{Deed, Ends, Goes, Program, printedBy}
 use Rattle.lines.specs.Line.{line}
 
 -- Where a run stands: its join, how many records were accepted so far, notes included, and how many pair lines were printed.
@@ -63,45 +61,30 @@ heard s (Mark stream time) = markCall s stream time
 heard s (Close stream) = closeCall s stream
 heard s (Note size) = outcome Accepted s
 
--- what is done at a place of the feed
-pub data Deed : Type 0 where
-  -- a last line is printed
-  Ends : List ℕ → Deed
-  -- lines are printed, and the run goes on at the place of the next record, standing so
-  Goes : List ℕ → ℕ → Progress → Deed
-
 -- After each record it takes until nothing is ready
 abbrev pub onward : Progress → State → Progress
 onward p s = record { state = without (length (readyOf s)) s; records = suc (p .records); pairs = p .pairs + length (readyOf s) }
 
 -- and prints a line a pair.
-abbrev pub taken : Progress → ℕ → State → Deed
-taken p next s = Goes (pairLines (readyOf s)) next (onward p s)
+abbrev pub taken : Progress → State → Deed Progress
+taken p s = Goes (pairLines (readyOf s)) (onward p s)
 
-abbrev pub answered : Progress → ℕ → Answer → State → Deed
-answered p next Accepted s = taken p next s
-answered p next (Refused number) s = Ends (refusedLine number p)
+abbrev pub answered : Progress → Answer → State → Deed Progress
+answered p Accepted s = taken p s
+answered p (Refused number) s = Ends (refusedLine number p)
 
-unfoldable pub deed : Progress → Reading → Deed
-deed p (Found found next) = answered p next (heard (p .state) found .answer) (heard (p .state) found .state)
-deed p (refusedReading number place) = Ends (refusedLine number p)
-deed p End = Ends (endLine p)
+abbrev pub onRecord : Progress → Record → Deed Progress
+onRecord p found = answered p (heard (p .state) found .answer) (heard (p .state) found .state)
 
 -- ---- the whole run
 
--- what is printed of what is left of a feed by a deed, and by what comes after it
-abbrev pub continued : (Progress → List ℕ → List ℕ) → List ℕ → Deed → List ℕ
-continued after rest (Ends lines) = lines
-continued after rest (Goes lines next p) = lines ++ after p (drop next rest)
+-- A record is heard by the join; its last line is that of a refusal, or that of the feed's end.
+abbrev pub joinfeed : Program Progress
+joinfeed = record { onRecord = onRecord; onRefusal = λ p number. refusedLine number p; onEnd = endLine }
 
--- what is printed of what is left of a feed, in no more than so many records
-abbrev pub printedFrom : ℕ → Progress → List ℕ → List ℕ
-printedFrom zero p rest = []
-printedFrom (suc n) p rest = continued (printedFrom n) rest (deed p (reading rest 0))
-
--- Bytes beyond the limit are not read, and the feed counts as ending there. Every record has a byte, so the feed has fewer records than it has bytes and one.
-unfoldable pub printed : Rule → ℕ → List ℕ → List ℕ
-printed rule limit feed = printedFrom (suc (length (take limit feed))) (begun rule) (take limit feed)
+-- Bytes beyond the limit are not read, and the feed counts as ending there.
+abbrev pub printed : Rule → ℕ → List ℕ → List ℕ
+printed rule limit feed = printedBy joinfeed (begun rule) limit feed
 
 -- The limit of joinfeed.
 abbrev pub readLimit : ℕ

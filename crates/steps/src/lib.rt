@@ -1,7 +1,9 @@
 // A feed joined record by record, through whatever window shows it: what joinfeed does at each record, and what it puts out.
 use feed::Reading;
 use feed::Record;
-use framing::least;
+use framing::Went;
+use framing::read_shown;
+use framing::tells;
 use join::Called;
 use join::Join;
 use join::side_of;
@@ -21,15 +23,16 @@ ghost use Rattle.queue.specs.Queue as the_queue;
 ghost use Rattle.join.specs.State.{Sound, stateWith};
 ghost use Rattle.join.specs.Calls.{outcome, readyOf};
 ghost use Rattle.feed.specs.Record.{streamKnown};
+ghost use Rattle.framing.specs.Step.{effectOf, stepped};
 ghost use Rattle.lines.specs.Line.{line};
-ghost use Rattle.steps.specs.Printed.{refusedWord, pairLines, endLine, heard, onward, answered};
-ghost use Rattle.steps.specs.Step.{effectWith, effectOf, tells, stepped, progressWith, Kept, lineRoom, room};
+ghost use Rattle.steps.specs.Printed.{refusedWord, pairLines, endLine, heard, onward, onRecord, joinfeed, readLimit};
+ghost use Rattle.steps.specs.Step.{effectWith, progressWith, Kept, mostPairs, lineRoom, room};
 
 // How many bytes of a feed are read.
 pub const READ_LIMIT: u32 = 4294967295;
 
 // How many bytes the line of a pair may have.
-const LINE: usize = 8 * FIELD;
+const LINE: usize = Queue::WIDTH * FIELD;
 
 // How many bytes a step may put out: the lines of all pairs that may wait.
 pub const ROOM: usize = Queue::PLACES * LINE;
@@ -38,16 +41,6 @@ pub const ROOM: usize = Queue::PLACES * LINE;
 pub struct Counts {
     pub records: u32,
     pub pairs: u64,
-}
-
-// What a step came to.
-pub enum Went {
-    // The window shows too little to tell: a record may go on behind it.
-    More,
-    // A record was accepted.
-    On,
-    // The last line is out.
-    Ended,
 }
 
 // What a step leaves, beside the lent places and the lent buffer.
@@ -90,12 +83,12 @@ fn hear(
 }
 
 // The numbers of a pair, as wide as a line takes them.
-fn numbers_in(row: [u32; 8]) -> [u64; 8]
-    ensures { λ r. ⌜ (r ≡ row) × (length row ≡ 8) × (length (line row) ≤ lineRoom) ⌝ }
+fn numbers_in(row: [u32; Queue::WIDTH]) -> [u64; Queue::WIDTH]
+    ensures { λ r. ⌜ (r ≡ row) × (length row ≡ the_queue.width) × (length (line row) ≤ lineRoom) ⌝ }
 {
-    let mut numbers = [0u64; 8];
+    let mut numbers = [0u64; Queue::WIDTH];
     let mut i = 0;
-    while i < 8 {
+    while i < Queue::WIDTH {
         numbers[i] = row[i] as u64;
         i += 1;
     }
@@ -139,7 +132,7 @@ fn put_refused(out: &mut [u8], number: u32, records: u32) -> usize
 
 // The last line of a feed that ends.
 fn put_end(out: &mut [u8], join: Join, counts: Counts) -> usize
-    requires { ⌜ (room ≤ length (now out)) × (counts .pairs < 1000000000000) ⌝ }
+    requires { ⌜ (room ≤ length (now out)) × (counts .pairs ≤ mostPairs) ⌝ }
     ensures { λ r. ⌜ ((inA inB rows : Rows) → r ≡ length (endLine (progressWith join inA inB rows counts))) ⌝ }
     ensures { λ _. ⌜ ((inA inB rows : Rows) → now (out .exit) ≡ put 0 (endLine (progressWith join inA inB rows counts)) (now (out .entry))) ⌝ }
 {
@@ -156,7 +149,7 @@ fn put_end(out: &mut [u8], join: Join, counts: Counts) -> usize
 
 // The ready pairs put out, and dropped at once.
 fn hand_out(join: Join, rows: &mut queue::Places, counts: Counts, out: &mut [u8]) -> Handed
-    requires { ⌜ (the_queue.Holds (join .queue) (now rows)) × (chain comesBefore (the_queue.waiting (join .queue) (now rows)) ≡ true) × (room ≤ length (now out)) × (counts .records < 4294967295) × (counts .pairs < 1000000000000) ⌝ }
+    requires { ⌜ (the_queue.Holds (join .queue) (now rows)) × (chain comesBefore (the_queue.waiting (join .queue) (now rows)) ≡ true) × (room ≤ length (now out)) × (counts .records < readLimit) × (counts .pairs ≤ mostPairs) ⌝ }
     ensures { λ r. ⌜ ((inA inB : Rows) → progressWith (r .join) inA inB (now (rows .exit)) (r .counts) ≡ onward (progressWith join inA inB (now (rows .entry)) counts) (stateWith join inA inB (now (rows .entry)))) ⌝ }
     ensures { λ r. ⌜ ((inA inB : Rows) → r .filled ≡ length (pairLines (readyOf (stateWith join inA inB (now (rows .entry)))))) ⌝ }
     ensures { λ r. ⌜ ((inA inB : Rows) → now (out .exit) ≡ put 0 (pairLines (readyOf (stateWith join inA inB (now (rows .entry))))) (now (out .entry))) ⌝ }
@@ -185,8 +178,8 @@ fn take_in(
     next: usize,
     out: &mut [u8],
 ) -> Stepped
-    requires { ⌜ (Sound (stateWith join (now a) (now b) (now rows))) × (streamKnown «record» ≡ true) × (room ≤ length (now out)) × (counts .records < 4294967295) × (counts .pairs < 1000000000000) ⌝ }
-    ensures { λ r. ⌜ effectWith r (now (a .exit)) (now (b .exit)) (now (rows .exit)) (now (out .exit)) ≡ effectOf (progressWith join (now (a .entry)) (now (b .entry)) (now (rows .entry)) counts) (now (out .entry)) (answered (progressWith join (now (a .entry)) (now (b .entry)) (now (rows .entry)) counts) next (heard (stateWith join (now (a .entry)) (now (b .entry)) (now (rows .entry))) «record» .answer) (heard (stateWith join (now (a .entry)) (now (b .entry)) (now (rows .entry))) «record» .state)) ⌝ }
+    requires { ⌜ (Sound (stateWith join (now a) (now b) (now rows))) × (streamKnown «record» ≡ true) × (room ≤ length (now out)) × (counts .records < readLimit) × (counts .pairs ≤ mostPairs) ⌝ }
+    ensures { λ r. ⌜ effectWith r (now (a .exit)) (now (b .exit)) (now (rows .exit)) (now (out .exit)) ≡ effectOf (progressWith join (now (a .entry)) (now (b .entry)) (now (rows .entry)) counts) (now (out .entry)) next (onRecord (progressWith join (now (a .entry)) (now (b .entry)) (now (rows .entry)) counts) «record») ⌝ }
 {
     let called = hear(join, a, b, rows, record);
     let after = called.join;
@@ -213,14 +206,6 @@ fn take_in(
     }
 }
 
-// Does a window show all that can matter to the record that stands first in it, of a feed of which so many bytes may still be read?
-fn tells(left: usize, window: &[u8], ended: bool) -> bool
-    ensures { λ r. ⌜ r ≡ tells left (now (window .entry)) ended ⌝ }
-{
-    // 68 bytes show any record: its length need not be looked at.
-    ended || (left <= window.len() || (68 <= window.len() || feed::shows(window)))
-}
-
 // One step: the record that stands first in the window, if the window shows all that can matter to it. A refusal and the feed's end leave early.
 pub fn step(
     join: Join,
@@ -234,7 +219,7 @@ pub fn step(
     out: &mut [u8],
 ) -> Stepped
     requires { ⌜ (Kept (progressWith join (now a) (now b) (now rows) counts) left) × (room ≤ length (now out)) ⌝ }
-    ensures { λ r. ⌜ effectWith r (now (a .exit)) (now (b .exit)) (now (rows .exit)) (now (out .exit)) ≡ stepped (progressWith join (now (a .entry)) (now (b .entry)) (now (rows .entry)) counts) left (now (window .entry)) ended (now (out .entry)) ⌝ }
+    ensures { λ r. ⌜ effectWith r (now (a .exit)) (now (b .exit)) (now (rows .exit)) (now (out .exit)) ≡ stepped joinfeed (progressWith join (now (a .entry)) (now (b .entry)) (now (rows .entry)) counts) left (now (window .entry)) ended (now (out .entry)) ⌝ }
     ensures { λ r. ⌜ Kept (progressWith (r .join) (now (a .exit)) (now (b .exit)) (now (rows .exit)) (r .counts)) (left - r .used) ⌝ }
 {
     if !tells(left, window, ended) {
@@ -246,9 +231,7 @@ pub fn step(
             filled: 0,
         };
     }
-    let size = least(left, window.len());
-    let shown = &window[..size];
-    let reading = feed::read(shown, 0);
+    let reading = read_shown(left, window);
     let Reading::Found(record, next) = reading else {
         let Reading::Refused(number, _) = reading else {
             let filled = put_end(out, join, counts);

@@ -1,3 +1,2 @@
 pub mod Fitted
-pub mod Text
 pub mod Unique

@@ -1,10 +1,10 @@
 // A feed that is at hand joined whole: what is printed of it, put into a buffer that the caller lends.
+use framing::Went;
 use join::Join;
 use pairing::Rule;
 use steps::Counts;
 use steps::READ_LIMIT;
 use steps::ROOM;
-use steps::Went;
 use steps::step;
 ghost use mathlib.Core.Path.{_≡_};
 ghost use Prim.Native.Nat.{_+_, _≤_};

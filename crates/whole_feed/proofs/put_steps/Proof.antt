@@ -15,15 +15,16 @@ use Rattle.join.specs.declared.Join.{Join}
 use Rattle.join.specs.State.{freshState, stateOf}
 use Rattle.feed.proofs.Fields.{drop-first}
 use Rattle.feed.proofs.Readings.{rest-all}
-use Rattle.steps.specs.declared.Went.{Went}
-use Rattle.steps.specs.declared.Went.the-variants.{More, On, Ended}
-use Rattle.steps.specs.Printed.{Progress, printed, readLimit}
-use Rattle.steps.specs.Step.{Effect, effectWith, stepped, progressWith, Kept}
+use Rattle.framing.specs.declared.Went.{Went}
+use Rattle.framing.specs.declared.Went.the-variants.{More, On, Ended}
+use Rattle.framing.specs.Step.{Effect, stepped}
+use Rattle.framing.proofs.Moves.{moves}
+use Rattle.framing.proofs.Text.{Stands, stands-begun, stands-ended, stands-on}
+use Rattle.framing.proofs.Went.{the-type as went-type}
+use Rattle.steps.specs.Printed.{Progress, begun, joinfeed, printed, readLimit}
+use Rattle.steps.specs.Step.{effectWith, progressWith, Kept, room}
 use Rattle.steps.proofs.Fresh.{begun-with}
-use Rattle.steps.proofs.Moves.{moves}
 use Rattle.steps.proofs.Steps.{kept-begun}
-use Rattle.steps.proofs.Went.{the-type as went-type}
-use Rattle.whole_feed.proofs.Text.{Stands, stands-begun, stands-ended, stands-on}
 use Rattle.whole_feed.proofs.put_steps.Statement.{statement}
 use Rattle.whole_feed.proofs.put_steps.Tie as tie
 
@@ -43,10 +44,10 @@ Inv-loop feed out₀ a₀ b₀ rows₀ join₀ counts₀ left₀ at₀ lines₀ 
     (Kept (progressWith join a b rows counts) left)
     × (at ≤ length feed)
     × (at + left ≡ readLimit)
-    × (size ≤ 22528 * at)
-    × (length lines ≡ 22528)
+    × (size ≤ room * at)
+    × (length lines ≡ room)
     × (length out ≡ length out₀)
-    × (Stands (printed (join₀ .rule) readLimit feed) (take left (drop at feed)) (progressWith join a b rows counts) size out₀ out)
+    × (Stands joinfeed (printed (join₀ .rule) readLimit feed) (take left (drop at feed)) (progressWith join a b rows counts) size out₀ out)
 
 abbrev μ-loop : tie.MeasureT-loop
 μ-loop feed out₀ a₀ b₀ rows₀ join₀ counts₀ left₀ at₀ lines₀ size₀ out a b rows join counts left at lines size = left
@@ -82,7 +83,7 @@ loop-holds c =
       omega arith,
       c .no-lines .ensures,
       refl,
-      rw (start, own) (stands-begun rule readLimit (now (st .args .feed)) (now (st .args .out))),
+      rw (start, own) (stands-begun joinfeed (begun rule) readLimit (now (st .args .feed)) (now (st .args .out))),
     )
 
 sub-window : tie.Need-sub-window Inv-loop μ-loop
@@ -104,14 +105,14 @@ sub-left : tie.Need-sub-left Inv-loop μ-loop
 sub-left c =
     let l = c .before .before .before .before .before .before .before .before .before .before .loop in
     let t = c .before .before .before .before .step in
-    let m = moves _ _ _ _ _ _ (t .ensures .0) in
+    let m = moves _ _ _ _ _ _ _ (t .ensures .0) in
     m .in-left
 
 add-at : tie.Need-add-at Inv-loop μ-loop
 add-at c =
     let l = c .before .before .before .before .before .before .before .before .before .before .before .loop in
     let t = c .before .before .before .before .before .step in
-    let m = moves _ _ _ _ _ _ (t .ensures .0) in
+    let m = moves _ _ _ _ _ _ _ (t .ensures .0) in
     let few = m .in-left in
     let most = l .inv .2 in
     record { fits = omega arith }
@@ -120,7 +121,7 @@ array-share-prefix-lines : tie.Need-array-share-prefix-lines Inv-loop μ-loop
 array-share-prefix-lines c =
     let l = c .before .before .before .before .before .before .before .before .before .before .before .before .loop in
     let t = c .before .before .before .before .before .before .step in
-    let m = moves _ _ _ _ _ _ (t .ensures .0) in
+    let m = moves _ _ _ _ _ _ _ (t .ensures .0) in
     let same = c .before .before .before .before .before .lines2 .given in
     let long = l .inv .4 in
     let fits = m .fits (same ∙ sym long) in
@@ -130,7 +131,7 @@ slice-aggregate-put-fitting : tie.Need-slice-aggregate-put-fitting Inv-loop μ-l
 slice-aggregate-put-fitting c =
     let l = c .before .before .before .before .before .before .before .before .before .before .before .before .before .loop in
     let t = c .before .before .before .before .before .before .before .step in
-    let m = moves _ _ _ _ _ _ (t .ensures .0) in
+    let m = moves _ _ _ _ _ _ _ (t .ensures .0) in
     let same = c .before .before .before .before .before .before .lines2 .given in
     let long = l .inv .4 in
     let fits = m .fits (same ∙ sym long) in
@@ -143,7 +144,7 @@ add-size : tie.Need-add-size Inv-loop μ-loop
 add-size c =
     let l = c .before .before .before .before .before .before .before .before .before .before .before .before .before .before .before .before .loop in
     let t = c .before .before .before .before .before .before .before .before .before .before .step in
-    let m = moves _ _ _ _ _ _ (t .ensures .0) in
+    let m = moves _ _ _ _ _ _ _ (t .ensures .0) in
     let same = c .before .before .before .before .before .before .before .before .before .lines2 .given in
     let long = l .inv .4 in
     let fits = m .fits (same ∙ sym long) in
@@ -158,7 +159,7 @@ loop-less : tie.Need-loop-less Inv-loop μ-loop
 loop-less c =
     let l = c .before .before .before .before .before .before .before .before .before .before .before .before .before .before .before .before .before .before .loop in
     let t = c .before .before .before .before .before .before .before .before .before .before .before .before .step in
-    let m = moves _ _ _ _ _ _ (t .ensures .0) in
+    let m = moves _ _ _ _ _ _ _ (t .ensures .0) in
     let some = m .on (c .enum-told .given .1) in
     let few = m .in-left in
     omega arith
@@ -170,12 +171,12 @@ loop-again c =
     let put = c .before .before .before .before .put-fitting in
     let feed = now (c .before .before .before .before .before .before .before .before .before .before .before .before .before .before .before .before .before .before .before .before .before .before .before .before .before .before .args .feed) in
     let p = progressWith (l .join) (l .a) (l .b) (l .rows) (l .counts) in
-    let e : Effect = effectWith (t .result) (t .last .1 .0) (t .last .1 .1 .0) (t .last .1 .1 .1 .0) (t .last .1 .1 .1 .1 .1 .1 .1 .1 .0) in
-    let same : e ≡ stepped p (l .left) (drop (l .at) feed) true (l .lines) = t .ensures .0 ∙ ap (λ (w : List ℕ). stepped p (l .left) w true (l .lines)) (rest-all feed (l .at)) in
-    let m = moves p (l .left) (drop (l .at) feed) true (l .lines) e same in
+    let e : Effect Progress = effectWith (t .result) (t .last .1 .0) (t .last .1 .1 .0) (t .last .1 .1 .1 .0) (t .last .1 .1 .1 .1 .1 .1 .1 .1 .0) in
+    let same : e ≡ stepped joinfeed p (l .left) (drop (l .at) feed) true (l .lines) = t .ensures .0 ∙ ap (λ (w : List ℕ). stepped joinfeed p (l .left) w true (l .lines)) (rest-all feed (l .at)) in
+    let m = moves joinfeed p (l .left) (drop (l .at) feed) true (l .lines) e same in
     let lines-long = c .before .before .before .before .before .before .before .before .before .before .before .lines2 .given in
     let fits = m .fits (lines-long ∙ sym (l .inv .4)) in
-    let room = l .inv .4 in
+    let lines-room = l .inv .4 in
     let some = m .on (c .enum-told .given .1) in
     let few = m .in-left in
     let within : t .result .used ≤ length feed - l .at = omega (arith, m .in-window, length-drop (l .at) feed) in
@@ -190,7 +191,7 @@ loop-again c =
       omega arith,
       lines-long,
       c .before .before .before .out .given ∙ l .inv .5,
-      rw rest at (stands-on (l .left) (drop (l .at) feed) (l .inv .6) (l .lines) e same (put .last .0) (put .ensures) (l .inv .5) (c .enum-told .given .1)),
+      rw rest at (stands-on joinfeed (l .left) (drop (l .at) feed) (l .inv .6) (l .lines) e same (put .last .0) (put .ensures) (l .inv .5) (c .enum-told .given .1)),
     )
 
 same-length : tie.Need-same-length Inv-loop μ-loop
@@ -203,13 +204,13 @@ returns c =
     let put = c .before .before .before .put-fitting in
     let feed = now (c .before .before .before .before .before .before .before .before .before .before .before .before .before .before .before .before .before .before .before .before .before .before .before .before .before .args .feed) in
     let p = progressWith (l .join) (l .a) (l .b) (l .rows) (l .counts) in
-    let e : Effect = effectWith (t .result) (t .last .1 .0) (t .last .1 .1 .0) (t .last .1 .1 .1 .0) (t .last .1 .1 .1 .1 .1 .1 .1 .1 .0) in
-    let same : e ≡ stepped p (l .left) (drop (l .at) feed) true (l .lines) = t .ensures .0 ∙ ap (λ (w : List ℕ). stepped p (l .left) w true (l .lines)) (rest-all feed (l .at)) in
-    let m = moves p (l .left) (drop (l .at) feed) true (l .lines) e same in
+    let e : Effect Progress = effectWith (t .result) (t .last .1 .0) (t .last .1 .1 .0) (t .last .1 .1 .1 .0) (t .last .1 .1 .1 .1 .1 .1 .1 .1 .0) in
+    let same : e ≡ stepped joinfeed p (l .left) (drop (l .at) feed) true (l .lines) = t .ensures .0 ∙ ap (λ (w : List ℕ). stepped joinfeed p (l .left) w true (l .lines)) (rest-all feed (l .at)) in
+    let m = moves joinfeed p (l .left) (drop (l .at) feed) true (l .lines) e same in
     let rule = c .before .before .before .before .before .before .before .before .before .before .before .before .before .before .before .before .before .before .before .before .before .before .before .before .before .args .rule in
     let own = fresh-rule rule (c .before .before .before .before .before .before .before .before .before .before .before .before .before .before .before .before .before .before .before .fresh .ensures) in
     let is = last-step (t .result .went) (c .match .keys2) (λ more. true≢false (m .more more .0)) in
-    rw own at (stands-ended (l .left) (drop (l .at) feed) (l .inv .6) (l .lines) e same (put .last .0) (put .ensures) (l .inv .5) is)
+    rw own at (stands-ended joinfeed (l .left) (drop (l .at) feed) (l .inv .6) (l .lines) e same (put .last .0) (put .ensures) (l .inv .5) is)
 
 pub put-steps-spec : {M : Type 1} → statement M
 put-steps-spec =

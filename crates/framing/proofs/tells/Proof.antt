@@ -2,9 +2,9 @@
 use borrow.Author.Needs.{needs}
 use borrow.Author.Tests.{le-leb, lt-leb}
 use Rattle.feed.proofs.Locality.{long-shows}
-use Rattle.steps.specs.Step.{tells}
-use Rattle.steps.proofs.tells.Statement.{statement}
-use Rattle.steps.proofs.tells.Tie as tie
+use Rattle.framing.specs.Shown.{tells}
+use Rattle.framing.proofs.tells.Statement.{statement}
+use Rattle.framing.proofs.tells.Tie as tie
 
 shows-requires : tie.Need-shows-requires
 shows-requires c κs = search needs

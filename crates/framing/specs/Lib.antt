@@ -1,0 +1,4 @@
+pub mod Shown
+pub mod Program
+pub mod Step
+pub mod Windows
