@@ -35,20 +35,14 @@ shown-least left window size e = go (leb left (length window)) refl
         let more = leb-false left (length window) h in
         take-all size window (omega arith) ∙ sym (take-all left window (omega arith))
 
--- ---- what a deed leaves
+-- ---- what a deed leaves, where its lines are put out
 
-module _ {P : Type 0} (p : P) (out : List ℕ) (next : ℕ) (d : Deed P) (filled : ℕ) (buffer lines : List ℕ) (long : filled ≡ length lines) (same : buffer ≡ put 0 lines out) where
-  pub goes-effect : (q r : P) → q ≡ r → d ≡ Goes lines r → record { went = On; progress = q; used = next; filled = filled; buffer = buffer } ≡ effectOf p out next d
-  goes-effect q r f e =
-      let here : record { went = On; progress = q; used = next; filled = filled; buffer = buffer } ≡ effectOf p out next (Goes lines r) =
-      λ i. record { went = On; progress = f i; used = next; filled = long i; buffer = same i } in
-      here ∙ ap (effectOf p out next) (sym e)
+module _ {P : Type 0} (p : P) (out : List ℕ) (next : ℕ) (lines : List ℕ) (filled : ℕ) (buffer : List ℕ) (long : filled ≡ length lines) (same : buffer ≡ put 0 lines out) where
+  pub goes-effect : (q r : P) → q ≡ r → record { went = On; progress = q; used = next; filled = filled; buffer = buffer } ≡ effectOf p out next (Goes lines r)
+  goes-effect q r e = λ i. record { went = On; progress = e i; used = next; filled = long i; buffer = same i }
 
-  pub ends-effect : (q : P) → q ≡ p → d ≡ Ends lines → record { went = Ended; progress = q; used = 0; filled = filled; buffer = buffer } ≡ effectOf p out next d
-  ends-effect q f e =
-      let here : record { went = Ended; progress = q; used = 0; filled = filled; buffer = buffer } ≡ effectOf p out next (Ends lines) =
-      λ i. record { went = Ended; progress = f i; used = 0; filled = long i; buffer = same i } in
-      here ∙ ap (effectOf p out next) (sym e)
+  pub ends-effect : (q : P) → q ≡ p → record { went = Ended; progress = q; used = 0; filled = filled; buffer = buffer } ≡ effectOf p out next (Ends lines)
+  ends-effect q e = λ i. record { went = Ended; progress = e i; used = 0; filled = long i; buffer = same i }
 
 -- ---- what a step does
 
@@ -64,7 +58,7 @@ module _ {P : Type 0} (program : Program P) (p : P) (left : ℕ) (window : List 
   -- a last line that was put out
   pub step-ends : tells left window ended ≡ true → (r : Reading) → reading (shown left window) 0 ≡ r → (lines : List ℕ) → deed program p r ≡ Ends lines → (filled : ℕ) (buffer : List ℕ) → filled ≡ length lines → buffer ≡ put 0 lines out
       → record { went = Ended; progress = p; used = 0; filled = filled; buffer = buffer } ≡ stepped program p left window ended out
-  step-ends telling r e lines last filled buffer long same = ends-effect p out (nextOf r) (deed program p r) filled buffer lines long same p refl last ∙ sym (step-reads telling r e)
+  step-ends telling r e lines last filled buffer long same = ends-effect p out (nextOf r) lines filled buffer long same p refl ∙ ap (effectOf p out (nextOf r)) (sym last) ∙ sym (step-reads telling r e)
 
   -- it keeps what every record that is accepted keeps, of where a run stands and how many bytes may still be read
   module _ (Kept : P → ℕ → Type 0) (kept : Kept p left)

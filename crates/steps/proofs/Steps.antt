@@ -3,7 +3,7 @@ use Prim.Native.Nat.{ℕ, suc, _+_, _-_, _≤_}
 use native.Mathlib.Omega.{arith}
 use mathlib.Core.Bool.{Bool}
 use mathlib.Core.List.{List, [], _∷_, _++_}
-use mathlib.Core.Path.{_≡_, refl, sym, ap, _∙_}
+use mathlib.Core.Path.{_≡_, sym, ap, _∙_}
 use lib.ListN.{length}
 use Rattle.lists.specs.Put.{put}
 use Rattle.lists.proofs.Keep.{keep-length}
@@ -19,12 +19,12 @@ use Rattle.join.proofs.Kept.{sound-fresh, without-kept}
 use Rattle.join.proofs.Ready.{ready-few}
 use Rattle.feed.specs.declared.Record.{Record}
 use Rattle.feed.specs.Kind.{shortestRecord}
-use Rattle.framing.specs.declared.Went.the-variants.{On, Ended}
-use Rattle.framing.specs.Program.{Deed, Ends, Goes}
+use Rattle.framing.specs.declared.Went.the-variants.{Ended}
+use Rattle.framing.specs.Program.{Goes}
 use Rattle.framing.specs.Step.{Effect, effectOf, stepped}
 use Rattle.framing.proofs.Steps as steps
 use Rattle.lines.specs.Line.{line}
-use Rattle.steps.specs.Printed.{Progress, begun, readLimit, pairLines, refusedWord, refusedLine, heard, onward, answered, onRecord, joinfeed}
+use Rattle.steps.specs.Printed.{Progress, begun, readLimit, refusedWord, refusedLine, heard, onward, answered, joinfeed}
 use Rattle.steps.specs.Step.{Kept}
 use Rattle.steps.proofs.Heard.{heard-kept}
 
@@ -47,20 +47,15 @@ onward-with p k e s records pairs f g h =
     let longer : pairs ≡ p .pairs + length (readyOf (p .state)) = omega arith in
     λ i. record { state = same i; records = more i; pairs = longer i }
 
--- ---- what the join answered
+-- ---- what the join refused
 
-module _ (p : Progress) (out : List ℕ) (next : ℕ) (o : Outcome Answer) (s : State) where
-  pub accepted-effect : outcome Accepted s ≡ o → (q : Progress) (filled : ℕ) (buffer : List ℕ) → q ≡ onward p s → filled ≡ length (pairLines (readyOf s)) → buffer ≡ put 0 (pairLines (readyOf s)) out
-      → record { went = On; progress = q; used = next; filled = filled; buffer = buffer } ≡ effectOf p out next (answered p (o .answer) (o .state))
-  accepted-effect e q filled buffer f g h =
-      steps.goes-effect p out next _ filled buffer (pairLines (readyOf s)) g h q (onward p s) f (ap (λ (x : Outcome Answer). answered p (x .answer) (x .state)) (sym e))
-
-  pub refused-effect : (number : ℕ) → outcome (Refused number) s ≡ o → o .state ≡ p .state → (filled : ℕ) (buffer : List ℕ) → filled ≡ length (refusedWord ++ line (number ∷ p .records ∷ [])) → buffer ≡ put 0 (refusedWord ++ line (number ∷ p .records ∷ [])) out
-      → record { went = Ended; progress = record { state = s; records = p .records; pairs = p .pairs }; used = 0; filled = filled; buffer = buffer } ≡ effectOf p out next (answered p (o .answer) (o .state))
-  unfolding refusedLine
-  refused-effect number e f filled buffer g h =
-      let same : s ≡ p .state = ap (λ (x : Outcome Answer). x .state) e ∙ f in
-      steps.ends-effect p out next _ filled buffer (refusedLine number p) g h _ (λ i. record { state = same i; records = p .records; pairs = p .pairs }) (ap (λ (x : Outcome Answer). answered p (x .answer) (x .state)) (sym e))
+pub refused-effect : (p : Progress) (out : List ℕ) (next : ℕ) (o : Outcome Answer) (s : State) (number : ℕ) → outcome (Refused number) s ≡ o → o .state ≡ p .state → (filled : ℕ) (buffer : List ℕ) → filled ≡ length (refusedWord ++ line (number ∷ p .records ∷ [])) → buffer ≡ put 0 (refusedWord ++ line (number ∷ p .records ∷ [])) out
+    → record { went = Ended; progress = record { state = s; records = p .records; pairs = p .pairs }; used = 0; filled = filled; buffer = buffer } ≡ effectOf p out next (answered p (o .answer) (o .state))
+unfolding refusedLine
+refused-effect p out next o s number e f filled buffer g h =
+    let same : s ≡ p .state = ap (λ (x : Outcome Answer). x .state) e ∙ f in
+    steps.ends-effect p out next (refusedLine number p) filled buffer g h _ (λ i. record { state = same i; records = p .records; pairs = p .pairs })
+    ∙ ap (λ (x : Outcome Answer). effectOf p out next (answered p (x .answer) (x .state))) e
 
 -- ---- what a run keeps
 

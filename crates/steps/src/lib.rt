@@ -21,12 +21,12 @@ ghost use Rattle.lists.specs.Store.{Rows};
 ghost use Rattle.pairing.specs.Pair.{comesBefore};
 ghost use Rattle.queue.specs.Queue as the_queue;
 ghost use Rattle.join.specs.State.{Sound, stateWith};
-ghost use Rattle.join.specs.Calls.{outcome, readyOf};
+ghost use Rattle.join.specs.Calls.{outcome};
 ghost use Rattle.feed.specs.Record.{streamKnown};
 ghost use Rattle.framing.specs.Step.{effectOf, stepped};
 ghost use Rattle.lines.specs.Line.{line};
-ghost use Rattle.steps.specs.Printed.{refusedWord, pairLines, endLine, heard, onward, onRecord, joinfeed, readLimit};
-ghost use Rattle.steps.specs.Step.{effectWith, progressWith, Kept, mostPairs, lineRoom, room};
+ghost use Rattle.steps.specs.Printed.{refusedWord, endLine, heard, taken, onRecord, joinfeed};
+ghost use Rattle.steps.specs.Step.{effectWith, progressWith, stays, Kept, Few, lineRoom, room};
 
 // How many bytes of a feed are read.
 pub const READ_LIMIT: u32 = 4294967295;
@@ -51,13 +51,6 @@ pub struct Stepped {
     // How many bytes of the window were used, and how many of the buffer.
     pub used: usize,
     pub filled: usize,
-}
-
-// What handing out leaves.
-struct Handed {
-    join: Join,
-    counts: Counts,
-    filled: usize,
 }
 
 // The join hears a record.
@@ -132,7 +125,7 @@ fn put_refused(out: &mut [u8], number: u32, records: u32) -> usize
 
 // The last line of a feed that ends.
 fn put_end(out: &mut [u8], join: Join, counts: Counts) -> usize
-    requires { ⌜ (room ≤ length (now out)) × (counts .pairs ≤ mostPairs) ⌝ }
+    requires { ⌜ (room ≤ length (now out)) × (Few counts) ⌝ }
     ensures { λ r. ⌜ ((inA inB rows : Rows) → r ≡ length (endLine (progressWith join inA inB rows counts))) ⌝ }
     ensures { λ _. ⌜ ((inA inB rows : Rows) → now (out .exit) ≡ put 0 (endLine (progressWith join inA inB rows counts)) (now (out .entry))) ⌝ }
 {
@@ -147,22 +140,41 @@ fn put_end(out: &mut [u8], join: Join, counts: Counts) -> usize
     put_last(out, b"open ", &[records, counts.pairs])
 }
 
-// The ready pairs put out, and dropped at once.
-fn hand_out(join: Join, rows: &mut queue::Places, counts: Counts, out: &mut [u8]) -> Handed
-    requires { ⌜ (the_queue.Holds (join .queue) (now rows)) × (chain comesBefore (the_queue.waiting (join .queue) (now rows)) ≡ true) × (room ≤ length (now out)) × (counts .records < readLimit) × (counts .pairs ≤ mostPairs) ⌝ }
-    ensures { λ r. ⌜ ((inA inB : Rows) → progressWith (r .join) inA inB (now (rows .exit)) (r .counts) ≡ onward (progressWith join inA inB (now (rows .entry)) counts) (stateWith join inA inB (now (rows .entry)))) ⌝ }
-    ensures { λ r. ⌜ ((inA inB : Rows) → r .filled ≡ length (pairLines (readyOf (stateWith join inA inB (now (rows .entry)))))) ⌝ }
-    ensures { λ r. ⌜ ((inA inB : Rows) → now (out .exit) ≡ put 0 (pairLines (readyOf (stateWith join inA inB (now (rows .entry))))) (now (out .entry))) ⌝ }
+// A step that leaves the run where it stands.
+fn stays(went: Went, join: Join, counts: Counts, filled: usize) -> Stepped
+    ensures { λ r. ⌜ r ≡ stays went join counts filled ⌝ }
+{
+    Stepped {
+        went,
+        join,
+        counts,
+        used: 0,
+        filled,
+    }
+}
+
+// The ready pairs put out, and dropped at once; the run goes on at the next record.
+fn hand_out(
+    join: Join,
+    rows: &mut queue::Places,
+    counts: Counts,
+    next: usize,
+    out: &mut [u8],
+) -> Stepped
+    requires { ⌜ (the_queue.Holds (join .queue) (now rows)) × (chain comesBefore (the_queue.waiting (join .queue) (now rows)) ≡ true) × (room ≤ length (now out)) × (Few counts) ⌝ }
+    ensures { λ r. ⌜ ((inA inB : Rows) → effectWith r inA inB (now (rows .exit)) (now (out .exit)) ≡ effectOf (progressWith join inA inB (now (rows .entry)) counts) (now (out .entry)) next (taken (progressWith join inA inB (now (rows .entry)) counts) (stateWith join inA inB (now (rows .entry))))) ⌝ }
 {
     let k = join.ready_on(rows);
     let filled = put_pairs(out, rows, k);
     let left = join.drop_on(rows, k);
-    Handed {
+    Stepped {
+        went: Went::On,
         join: left,
         counts: Counts {
             records: counts.records + 1,
             pairs: counts.pairs + k as u64,
         },
+        used: next,
         filled,
     }
 }
@@ -178,32 +190,17 @@ fn take_in(
     next: usize,
     out: &mut [u8],
 ) -> Stepped
-    requires { ⌜ (Sound (stateWith join (now a) (now b) (now rows))) × (streamKnown «record» ≡ true) × (room ≤ length (now out)) × (counts .records < readLimit) × (counts .pairs ≤ mostPairs) ⌝ }
+    requires { ⌜ (Sound (stateWith join (now a) (now b) (now rows))) × (streamKnown «record» ≡ true) × (room ≤ length (now out)) × (Few counts) ⌝ }
     ensures { λ r. ⌜ effectWith r (now (a .exit)) (now (b .exit)) (now (rows .exit)) (now (out .exit)) ≡ effectOf (progressWith join (now (a .entry)) (now (b .entry)) (now (rows .entry)) counts) (now (out .entry)) next (onRecord (progressWith join (now (a .entry)) (now (b .entry)) (now (rows .entry)) counts) «record») ⌝ }
 {
     let called = hear(join, a, b, rows, record);
     let after = called.join;
     let answer = called.answer;
     let Answer::Refused(number) = answer else {
-        let handed = hand_out(after, rows, counts, out);
-        let left = handed.join;
-        let counted = handed.counts;
-        return Stepped {
-            went: Went::On,
-            join: left,
-            counts: counted,
-            used: next,
-            filled: handed.filled,
-        };
+        return hand_out(after, rows, counts, next, out);
     };
     let filled = put_refused(out, number, counts.records);
-    Stepped {
-        went: Went::Ended,
-        join: after,
-        counts,
-        used: 0,
-        filled,
-    }
+    stays(Went::Ended, after, counts, filled)
 }
 
 // One step: the record that stands first in the window, if the window shows all that can matter to it. A refusal and the feed's end leave early.
@@ -223,34 +220,16 @@ pub fn step(
     ensures { λ r. ⌜ Kept (progressWith (r .join) (now (a .exit)) (now (b .exit)) (now (rows .exit)) (r .counts)) (left - r .used) ⌝ }
 {
     if !tells(left, window, ended) {
-        return Stepped {
-            went: Went::More,
-            join,
-            counts,
-            used: 0,
-            filled: 0,
-        };
+        return stays(Went::More, join, counts, 0);
     }
     let reading = read_shown(left, window);
     let Reading::Found(record, next) = reading else {
         let Reading::Refused(number, _) = reading else {
             let filled = put_end(out, join, counts);
-            return Stepped {
-                went: Went::Ended,
-                join,
-                counts,
-                used: 0,
-                filled,
-            };
+            return stays(Went::Ended, join, counts, filled);
         };
         let filled = put_refused(out, number, counts.records);
-        return Stepped {
-            went: Went::Ended,
-            join,
-            counts,
-            used: 0,
-            filled,
-        };
+        return stays(Went::Ended, join, counts, filled);
     };
     take_in(join, a, b, rows, counts, record, next, out)
 }

@@ -9,6 +9,7 @@ use lib.ListN.{length}
 use Rattle.lists.specs.Put.{put}
 use Rattle.queue.proofs.Laws.{holds-length}
 use Rattle.join.specs.State.{stateWith}
+use Rattle.framing.proofs.Steps.{goes-effect}
 use Rattle.steps.specs.Printed.{pairLines}
 use Rattle.steps.specs.Step.{progressWith}
 use Rattle.steps.proofs.Lines.{waiting-lines}
@@ -33,11 +34,11 @@ drop-on-requires c κs =
     let few = ready-count (stateWith (st .args .join) [] [] (st .args .rows .now)) (st .pre .0) in
     (omega arith, st .pre .0)
 
-add-t13 : tie.Need-add-t13
-add-t13 c = search needs
-
 add-t15 : tie.Need-add-t15
-add-t15 c =
+add-t15 c = search needs
+
+add-t17 : tie.Need-add-t17
+add-t17 c =
     let st = c .before .before .before .before .before .before .before .before .before .before .before .before in
     let k = c .before .before .before .before .before .before .before .before .before .ready-on .ensures .0 in
     let few = ready-count (stateWith (st .args .join) [] [] (st .args .rows .now)) (st .pre .0) in
@@ -50,14 +51,13 @@ returns : tie.Need-returns
 returns c =
     let st = c .before .before .before .before .before .before .before .before .before .before .before .before in
     let a = st .args in
-    let k = c .before .before .before .before .before .before .before .before .before .ready-on .ensures in
+    let k = c .before .before .before .before .before .before .before .before .before .ready-on in
     let few = ready-count (stateWith (a .join) [] [] (a .rows .now)) (st .pre .0) in
-    let lines = waiting-lines (a .join .queue) (a .rows .now) (st .pre .0) (c .before .before .before .before .before .before .before .before .before .ready-on .result) (omega arith) ∙ ap pairLines (k .1) in
-    let placed = c .before .before .before .before .before .before .put-pairs .ensures in (
-      λ inA inB.
-          onward-with (progressWith (a .join) inA inB (a .rows .now) (a .counts)) (c .before .before .before .before .before .before .before .before .before .ready-on .result) (k .0) _ _ _ (c .before .before .drop-on .ensures inA inB) (omega arith) (omega arith),
-      (λ inA inB. placed .0 ∙ ap length lines, λ inA inB. placed .1 ∙ ap (λ (l : List ℕ). put 0 l (now (a .out))) lines),
-    )
+    let lines = waiting-lines (a .join .queue) (a .rows .now) (st .pre .0) (k .result) (omega (arith, k .ensures .0)) ∙ ap pairLines (k .ensures .1) in
+    let placed = c .before .before .before .before .before .before .put-pairs in
+    λ inA inB.
+    let p = progressWith (a .join) inA inB (a .rows .now) (a .counts) in
+    goes-effect p (now (a .out)) (a .next) _ (placed .result) (placed .last .0) (placed .ensures .0 ∙ ap length lines) (placed .ensures .1 ∙ ap (λ (l : List ℕ). put 0 l (now (a .out))) lines) _ _ (onward-with p (k .result) (k .ensures .0) _ _ _ (c .before .before .drop-on .ensures inA inB) (omega arith) (omega arith))
 
 pub hand-out-spec : {M : Type 1} → statement M
 hand-out-spec =
@@ -66,7 +66,7 @@ hand-out-spec =
     ready-on-requires
     put-pairs-requires
     drop-on-requires
-    add-t13
     add-t15
+    add-t17
     same-length
     returns)
