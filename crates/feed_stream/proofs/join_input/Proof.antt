@@ -1,32 +1,22 @@
--- `join_input` ends, and each of its steps is lent what it requires. The invariant of its loop: the run is kept, the places in window and buffer are within them, and no more was read than the limit allows. The measure: what is left of the feed, and how far the window is from telling.
+-- `join_input` ends, and each of its steps is lent what it requires. The invariant of its loop: the run is kept, and so is what the flow keeps.
 use borrow.Author.Needs.{needs}
-use Prim.Native.Nat.{_-_, _≤_}
 use native.Mathlib.Omega.{arith}
-use mathlib.Core.Path.{_≡_, sym, subst}
-use lib.ListN.{length}
-use lib.Seq.{length-take-le}
+use mathlib.Core.Path.{sym, subst, ap}
 use Rattle.pairing.specs.declared.Rule.the-variants.{Equal}
-use Rattle.steps.specs.Step.{progressWith, Kept}
+use Rattle.pipe.specs.declared.Flow.{Flow}
+use Rattle.pipe.proofs.Loop.{Piped, piped-begun, piped-on, piped-refilled, remaining, less-on, less-refilled}
+use Rattle.steps.specs.Step.{progressWith, Kept, room}
+use Rattle.steps.specs.Printed.{Progress}
 use Rattle.steps.proofs.Fresh.{begun-with}
 use Rattle.steps.proofs.Steps.{kept-begun}
-use Rattle.steps.specs.Printed.{Progress}
-use Rattle.feed_stream.proofs.Ending.{remaining, less-on, less-more}
 use Rattle.feed_stream.proofs.join_input.Statement.{statement}
 use Rattle.feed_stream.proofs.join_input.Tie as tie
 
 abbrev Inv-loop : tie.InvT-loop
-Inv-loop limit a₀ b₀ rows₀ join₀ counts₀ left₀ window₀ unused₀ out₀ filled₀ a b rows join counts left window unused out filled =
-    (Kept (progressWith join a b rows counts) left)
-    × (unused .at ≤ unused .end)
-    × (unused .end ≤ 65536)
-    × (filled ≤ 65536)
-    × (length window ≡ 65536)
-    × (length out ≡ 65536)
-    × (unused .end - unused .at ≤ left)
-    × (left ≤ limit)
+Inv-loop limit a₀ b₀ rows₀ join₀ counts₀ window₀ out₀ flow₀ a b rows join counts window out flow = (Kept (progressWith join a b rows counts) (flow .left)) × (Piped flow window out room)
 
 abbrev μ-loop : tie.MeasureT-loop
-μ-loop limit a₀ b₀ rows₀ join₀ counts₀ left₀ window₀ unused₀ out₀ filled₀ a b rows join counts left window unused out filled = remaining left (unused .ended) (unused .end - unused .at)
+μ-loop limit a₀ b₀ rows₀ join₀ counts₀ window₀ out₀ flow₀ a b rows join counts window out flow = remaining flow
 
 no-places-requires : tie.Need-no-places-requires Inv-loop μ-loop
 no-places-requires c κs = search needs
@@ -46,16 +36,19 @@ large-buffer-requires c κs = search needs
 large-buffer-requires-2 : tie.Need-large-buffer-requires-2 Inv-loop μ-loop
 large-buffer-requires-2 c κs = search needs
 
+begun-requires : tie.Need-begun-requires Inv-loop μ-loop
+begun-requires c κs = search needs
+
 loop-holds : tie.Need-loop-holds Inv-loop μ-loop
 loop-holds c =
-    let start = begun-with Equal (c .before .before .fresh .ensures) (c .before .before .before .before .before .no-places .ensures) (c .before .before .before .before .no-places2 .ensures) (c .before .before .before .no-places3 .ensures) in
-    (subst (λ (p : Progress). Kept p (c .before .before .before .before .before .before .args .limit)) (sym start) (kept-begun Equal _ (omega arith)), omega arith, omega arith, omega arith, sym (c .before .large-buffer .ensures), sym (c .large-buffer2 .ensures), omega arith, omega arith)
-
-slice-aggregate-make-room : tie.Need-slice-aggregate-make-room Inv-loop μ-loop
-slice-aggregate-make-room c = search needs
-
-make-room-requires : tie.Need-make-room-requires Inv-loop μ-loop
-make-room-requires c κs = search needs
+    let limit = c .before .before .before .before .before .before .before .args .limit in
+    let start = begun-with Equal (c .before .before .before .fresh .ensures) (c .before .before .before .before .before .before .no-places .ensures) (c .before .before .before .before .before .no-places2 .ensures) (c .before .before .before .before .no-places3 .ensures) in
+    let flow = c .begun .ensures in
+    let window = c .before .before .large-buffer in
+    let out = c .before .large-buffer2 in (
+      subst (Kept _) (sym (ap (λ (f : Flow). f .left) flow)) (subst (λ (p : Progress). Kept p limit) (sym start) (kept-begun Equal _ (omega arith))),
+      subst (λ (f : Flow). Piped f (window .result) (out .result) room) (sym flow) (piped-begun limit room (omega arith) (sym (window .ensures)) (sym (out .ensures))),
+    )
 
 slice-aggregate-step-on : tie.Need-slice-aggregate-step-on Inv-loop μ-loop
 slice-aggregate-step-on c = search needs
@@ -66,132 +59,69 @@ slice-aggregate-step-on-2 c = search needs
 step-on-requires : tie.Need-step-on-requires Inv-loop μ-loop
 step-on-requires c κs = search needs
 
-sub-left : tie.Need-sub-left Inv-loop μ-loop
-sub-left c = search needs
-
-add-filled : tie.Need-add-filled Inv-loop μ-loop
-add-filled c =
-    let far = c .before .before .before .before .before .step-on .ensures .1 .0 .2 in
-    let long = c .before .before .before .before .before .before .before .before .before .before .before .before .before .loop .inv .5 in
-    record { fits = omega arith }
-
-add-unused : tie.Need-add-unused Inv-loop μ-loop
-add-unused c =
-    let far = c .before .before .before .before .before .before .before .step-on .ensures .1 .0 .1 in
-    let within = c .before .before .before .before .before .before .before .before .before .before .before .before .before .before .before .loop .inv .2 in
-    record { fits = omega arith }
-
 enum-told : tie.Need-enum-told Inv-loop μ-loop
 enum-told c = search needs
 
-array-share-prefix-out : tie.Need-array-share-prefix-out Inv-loop μ-loop
-array-share-prefix-out c =
-    let far = c .before .before .before .before .before .before .before .before .before .step-on .ensures .1 .0 .2 in
-    let long = c .before .before .before .before .before .before .before .before .before .before .before .before .before .before .before .before .before .loop .inv .5 in
-    let same = c .before .before .before .before .before .before .before .before .out3 .given in
-    omega arith
-
-slice-aggregate-write-out : tie.Need-slice-aggregate-write-out Inv-loop μ-loop
-slice-aggregate-write-out c =
-    let far = c .before .before .before .before .before .before .before .before .before .before .step-on .ensures .1 .0 .2 in
-    let long = c .before .before .before .before .before .before .before .before .before .before .before .before .before .before .before .before .before .before .loop .inv .5 in
-    let same = c .before .before .before .before .before .before .before .before .before .out3 .given in
-    sym (length-take-le _ _ (omega arith))
-
-write-out-requires : tie.Need-write-out-requires Inv-loop μ-loop
-write-out-requires c κs = search needs
-
 slice-aggregate-refill : tie.Need-slice-aggregate-refill Inv-loop μ-loop
-slice-aggregate-refill c = sym (c .before .before .before .before .before .before .before .before .before .before .before .before .before .before .before .before .before .before .before .before .loop .inv .4)
+slice-aggregate-refill c = search needs
+
+slice-aggregate-refill-2 : tie.Need-slice-aggregate-refill-2 Inv-loop μ-loop
+slice-aggregate-refill-2 c = search needs
 
 refill-requires : tie.Need-refill-requires Inv-loop μ-loop
 refill-requires c κs =
-    let l = c .before .before .before .before .before .before .before .before .before .before .before .before .before .before .before .before .before .before .before .before .loop in
-    let s = c .before .before .before .before .before .before .before .before .before .before .before .before .step-on .ensures .1 .0 in
-    let within = l .inv .2 in
-    let long = l .inv .4 in
-    let few = l .inv .6 in
-    let none = s .4 (c .before .before .before .enum-told .given .1) .2 in
-    (s .1, omega arith, omega arith)
+    let h = c .before .before .before .before .before .before .before .before .before .before .before .before .before .loop .inv .1 in
+    let f = h .flowing in
+    omega arith
 
 loop-less : tie.Need-loop-less Inv-loop μ-loop
 loop-less c =
-    let s = c .before .before .before .before .before .before .before .before .before .before .before .before .before .before .step-on in
-    let l = c .before .before .before .before .before .before .before .before .before .before .before .before .before .before .before .before .before .before .before .before .before .before .loop in
-    let r = c .before .refill in
-    less-more (l .left) (s .result .used) (l .unused .at) (l .unused .end) (l .unused .ended) (s .ensures .1 .0 .4 (c .before .before .before .before .before .enum-told .given .1)) (r .result .at) (r .result .end) (r .result .ended) (r .ensures .0 .0) (r .ensures .0 .3)
+    let l = c .before .before .before .before .before .before .before .before .before .before .before .before .before .before .before .loop in
+    let s = c .before .before .before .before .before .before .before .before .before .step-on in
+    less-refilled (l .inv .1) (c .before .refill .ensures .0) (c .window3 .given) (s .ensures .1 .0 .4 (c .before .before .before .before .enum-told .given .1) .0)
 
 loop-again : tie.Need-loop-again Inv-loop μ-loop
 loop-again c =
-    let s = c .before .before .before .before .before .before .before .before .before .before .before .before .before .before .step-on in
-    let l = c .before .before .before .before .before .before .before .before .before .before .before .before .before .before .before .before .before .before .before .before .before .before .loop in
-    let r = c .before .refill in
-    let first = r .ensures .0 .0 in
-    let last = r .ensures .0 .1 in
-    let few = r .ensures .0 .2 in
-    let most = l .inv .7 in
-    let same = c .window3 .given in
-    (s .ensures .0, omega arith, omega arith, omega arith, same, c .before .before .before .before .before .before .before .before .before .before .before .before .before .out3 .given, omega arith, omega arith)
+    let l = c .before .before .before .before .before .before .before .before .before .before .before .before .before .before .before .loop in
+    let s = c .before .before .before .before .before .before .before .before .before .step-on in
+    let r = c .before .refill .ensures .0 in
+    let none = s .ensures .1 .0 .4 (c .before .before .before .before .enum-told .given .1) .2 in
+    let same = r .left in
+    (subst (Kept _) (omega arith) (s .ensures .0), piped-refilled (l .inv .1) r (c .window3 .given) (c .window3 .given) (c .before .before .before .before .before .before .before .before .out2 .given))
 
 enum-told-2 : tie.Need-enum-told-2 Inv-loop μ-loop
 enum-told-2 c = search needs
 
+slice-aggregate-go-on : tie.Need-slice-aggregate-go-on Inv-loop μ-loop
+slice-aggregate-go-on c = search needs
+
+go-on-requires : tie.Need-go-on-requires Inv-loop μ-loop
+go-on-requires c κs = search needs
+
 loop-less-2 : tie.Need-loop-less-2 Inv-loop μ-loop
 loop-less-2 c =
-    let s = c .before .before .before .before .before .before .before .before .before .step-on in
-    let l = c .before .before .before .before .before .before .before .before .before .before .before .before .before .before .before .before .before .loop in
-    less-on (l .left) (s .result .used) (l .unused .at) (l .unused .end) (l .unused .ended) (s .ensures .1 .0 .3 (c .enum-told2 .given .1)) (s .ensures .1 .0 .0)
+    let l = c .before .before .before .before .before .before .before .before .before .before .before .before .before .loop in
+    let s = c .before .before .before .before .before .before .before .step-on in
+    let some = s .ensures .1 .0 .3 (c .before .before .enum-told2 .given .1) in
+    less-on (l .inv .1) _ _ (s .ensures .1 .0 .1) _ (c .go-on .ensures .1) (omega arith)
 
 loop-again-2 : tie.Need-loop-again-2 Inv-loop μ-loop
 loop-again-2 c =
-    let s = c .before .before .before .before .before .before .before .before .before .step-on in
-    let l = c .before .before .before .before .before .before .before .before .before .before .before .before .before .before .before .before .before .loop in
-    let far = s .ensures .1 .0 .2 in
-    let long = l .inv .5 in
-    let few = l .inv .6 in
-    let most = l .inv .7 in
-    (s .ensures .0, s .ensures .1 .0 .1, l .inv .2, omega arith, l .inv .4, c .before .before .before .before .before .before .before .before .out3 .given, omega arith, omega arith)
+    let l = c .before .before .before .before .before .before .before .before .before .before .before .before .before .loop in
+    let s = c .before .before .before .before .before .before .before .step-on in
+    let g = c .go-on .ensures in
+    (subst (Kept _) (sym (ap (λ (f : Flow). f .left) (g .1))) (s .ensures .0), piped-on (l .inv .1) _ _ (s .ensures .1 .0 .1) g (c .before .before .before .before .before .before .out2 .given))
 
 enum-told-3 : tie.Need-enum-told-3 Inv-loop μ-loop
 enum-told-3 c = search needs
 
-array-share-prefix-out-2 : tie.Need-array-share-prefix-out-2 Inv-loop μ-loop
-array-share-prefix-out-2 c =
-    let far = c .before .before .before .before .before .before .before .before .before .step-on .ensures .1 .0 .2 in
-    let long = c .before .before .before .before .before .before .before .before .before .before .before .before .before .before .before .before .before .loop .inv .5 in
-    let same = c .before .before .before .before .before .before .before .before .out3 .given in
-    omega arith
+slice-aggregate-finish : tie.Need-slice-aggregate-finish Inv-loop μ-loop
+slice-aggregate-finish c = search needs
 
-slice-aggregate-write-out-2 : tie.Need-slice-aggregate-write-out-2 Inv-loop μ-loop
-slice-aggregate-write-out-2 c =
-    let far = c .before .before .before .before .before .before .before .before .before .before .step-on .ensures .1 .0 .2 in
-    let long = c .before .before .before .before .before .before .before .before .before .before .before .before .before .before .before .before .before .before .loop .inv .5 in
-    let same = c .before .before .before .before .before .before .before .before .before .out3 .given in
-    sym (length-take-le _ _ (omega arith))
-
-write-out-requires-2 : tie.Need-write-out-requires-2 Inv-loop μ-loop
-write-out-requires-2 c κs = search needs
-
-sub-tell-place : tie.Need-sub-tell-place Inv-loop μ-loop
-sub-tell-place c =
-    let most = c .before .before .before .before .before .before .before .before .before .before .before .before .before .before .before .before .before .before .before .loop .inv .7 in
-    omega arith
-
-sub-tell-place-2 : tie.Need-sub-tell-place-2 Inv-loop μ-loop
-sub-tell-place-2 c = search needs
-
-part-tell-place-start : tie.Need-part-tell-place-start Inv-loop μ-loop
-part-tell-place-start c = search needs
-
-part-tell-place-end : tie.Need-part-tell-place-end Inv-loop μ-loop
-part-tell-place-end c =
-    let far = c .before .before .before .before .before .before .before .before .before .before .before .before .step-on .ensures .1 .0 .2 in
-    let long = c .before .before .before .before .before .before .before .before .before .before .before .before .before .before .before .before .before .before .before .before .loop .inv .5 in
-    let same = c .before .before .before .before .before .before .before .before .before .before .before .out3 .given in
-    omega arith
-
-tell-place-requires : tie.Need-tell-place-requires Inv-loop μ-loop
-tell-place-requires c κs = search needs
+finish-requires : tie.Need-finish-requires Inv-loop μ-loop
+finish-requires c κs =
+    let f = c .before .before .before .before .before .before .before .before .before .before .before .before .loop .inv .1 .flowing in
+    (search needs, f .counted)
 
 returns : tie.Need-returns Inv-loop μ-loop
 returns c = tt
@@ -208,33 +138,23 @@ join-input-spec =
     fresh-requires
     large-buffer-requires
     large-buffer-requires-2
+    begun-requires
     loop-holds
-    slice-aggregate-make-room
-    make-room-requires
     slice-aggregate-step-on
     slice-aggregate-step-on-2
     step-on-requires
-    sub-left
-    add-filled
-    add-unused
     enum-told
-    array-share-prefix-out
-    slice-aggregate-write-out
-    write-out-requires
     slice-aggregate-refill
+    slice-aggregate-refill-2
     refill-requires
     loop-less
     loop-again
     enum-told-2
+    slice-aggregate-go-on
+    go-on-requires
     loop-less-2
     loop-again-2
     enum-told-3
-    array-share-prefix-out-2
-    slice-aggregate-write-out-2
-    write-out-requires-2
-    sub-tell-place
-    sub-tell-place-2
-    part-tell-place-start
-    part-tell-place-end
-    tell-place-requires
+    slice-aggregate-finish
+    finish-requires
     returns)

@@ -50,24 +50,24 @@ returns c =
     let window = now (a .window) in
     let back = t .last .1 .1 .1 .1 .1 .1 .1 .1 .0 in
     let p = progressWith (a .join) (now (a .a)) (now (a .b)) (now (a .rows)) (a .counts) in
-    let left = a .left in
+    let left = a .flow .left in
     let e = t .ensures .0 in
     let m = moves _ _ _ _ _ _ e in
-    let free : take (length out - a .filled) (drop (a .filled) out) ≡ drop (a .filled) out = part-drop (a .filled) out (omega arith) in
-    let part : take (a .unused .end - a .unused .at) (drop (a .unused .at) window) ≡ slice (a .unused .at) (a .unused .end) window = part-slice (a .unused .at) (a .unused .end) window (omega arith) in
-    let as-lent : length (take (length out - a .filled) (drop (a .filled) out)) ≡ length out - a .filled = ap length free ∙ length-drop (a .filled) out in
-    let shows : length (take (a .unused .end - a .unused .at) (drop (a .unused .at) window)) ≡ a .unused .end - a .unused .at = length-take-le _ _ (simp length-drop (omega arith)) in
+    let free : take (length out - a .flow .filled) (drop (a .flow .filled) out) ≡ drop (a .flow .filled) out = part-drop (a .flow .filled) out (omega arith) in
+    let part : take (a .flow .end - a .flow .at) (drop (a .flow .at) window) ≡ slice (a .flow .at) (a .flow .end) window = part-slice (a .flow .at) (a .flow .end) window (omega arith) in
+    let as-lent : length (take (length out - a .flow .filled) (drop (a .flow .filled) out)) ≡ length out - a .flow .filled = ap length free ∙ length-drop (a .flow .filled) out in
+    let shows : length (take (a .flow .end - a .flow .at) (drop (a .flow .at) window)) ≡ a .flow .end - a .flow .at = length-take-le _ _ (simp length-drop (omega arith)) in
     let in-window = m .in-window in
     let fits = m .fits (c .before .out .given .0) in (
       t .ensures .1,
       (
         (m .in-left, omega arith, omega arith, m .on, λ more. let h = m .more more in (h .0, let few = h .1 in omega arith, h .2)),
         (
-          ap (effectWith (t .result) (t .last .1 .0) (t .last .1 .1 .0) (t .last .1 .1 .1 .0)) (drop-back (a .filled) out (omega arith) back)
+          ap (effectWith (t .result) (t .last .1 .0) (t .last .1 .1 .0) (t .last .1 .1 .1 .0)) (drop-back (a .flow .filled) out (omega arith) back)
               ∙ e
-              ∙ ap (λ (l : List ℕ). stepped p left l (a .unused .ended) (take (length out - a .filled) (drop (a .filled) out))) part
-              ∙ ap (stepped p left (slice (a .unused .at) (a .unused .end) window) (a .unused .ended)) free,
-          take-put (a .filled) (length out - a .filled) out back (omega arith),
+              ∙ ap (λ (l : List ℕ). stepped p left l (a .flow .ended) (take (length out - a .flow .filled) (drop (a .flow .filled) out))) part
+              ∙ ap (stepped p left (slice (a .flow .at) (a .flow .end) window) (a .flow .ended)) free,
+          take-put (a .flow .filled) (length out - a .flow .filled) out back (omega arith),
         ),
       ),
     )

@@ -7,8 +7,8 @@ use denote.Ref.{now}
 use lib.ListN.{length, drop, length-set}
 use lib.Seq.{slice, slice-empty}
 use Rattle.lists.proofs.InPlace.{move-step}
-use Rattle.feed_stream.proofs.move_front.Statement.{statement}
-use Rattle.feed_stream.proofs.move_front.Tie as tie
+use Rattle.pipe.proofs.move_front.Statement.{statement}
+use Rattle.pipe.proofs.move_front.Tie as tie
 
 abbrev Inv-loop : tie.InvT-loop
 Inv-loop window₀ at end i₀ window i = (at ≤ i) × (i ≤ end) × (length window ≡ length window₀) × (window ≡ slice at i window₀ ++ drop (i - at) window₀)

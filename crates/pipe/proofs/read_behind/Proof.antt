@@ -1,23 +1,15 @@
--- `refill` meets its contract: what was moved to the front stays there, and what is read stands behind it.
+-- `read_behind` meets its contract: what was moved to the front stays there, and what is read stands behind it.
 use borrow.Author.Needs.{needs}
 use borrow.Rule.Slice.PartMut.{take-put}
-use Prim.Native.Nat.{ℕ, zero, suc, _+_, _-_, _<_}
+use Prim.Native.Nat.{_-_}
 use native.Mathlib.Omega.{arith}
-use mathlib.Core.Bool.{true}
-use mathlib.Core.Logic.{_⊎_, inl, inr}
-use mathlib.Core.Path.{_≡_, refl, ap, _∙_}
+use mathlib.Core.Path.{_≡_, ap, _∙_}
 use denote.Ref.{now}
-use lib.Dec.{eqb}
 use lib.ListN.{length, take, drop, length-take, length-drop}
 use lib.Seq.{slice, take-at}
 use Rattle.lists.proofs.InPlace.{moved-long}
-use Rattle.feed_stream.proofs.refill.Statement.{statement}
-use Rattle.feed_stream.proofs.refill.Tie as tie
-
--- a read that brings nothing is the last
-some-or-none : (kept more : ℕ) → (eqb more 0 ≡ true) ⊎ (kept < kept + more)
-some-or-none kept zero = inl refl
-some-or-none kept (suc more) = inr (omega arith)
+use Rattle.pipe.proofs.read_behind.Statement.{statement}
+use Rattle.pipe.proofs.read_behind.Tie as tie
 
 move-front-requires : tie.Need-move-front-requires
 move-front-requires c κs = search needs
@@ -43,9 +35,6 @@ read-requires c κs = search needs
 count-requires : tie.Need-count-requires
 count-requires c κs = search needs
 
-add-t13 : tie.Need-add-t13
-add-t13 c = search needs
-
 same-length : tie.Need-same-length
 same-length c = search needs
 
@@ -62,12 +51,12 @@ returns c =
     let most = least .ensures in
     let long : length (slice (a .at) (a .end) window) ≡ kept = simp (length-drop, length-take) (omega arith) in
     let same = moved-long (a .end) (a .at) window (moved .last .0) within order (moved .ensures) in (
-      (refl, search needs, search needs, some-or-none kept (c .before .before .count .result)),
+      (search needs, search needs),
       take-put kept (least .result - kept) (moved .last .0) (c .before .before .before .before .before .before .read .last .1 .0) (omega arith) ∙ ap (take kept) (moved .ensures) ∙ take-at (slice (a .at) (a .end) window) (drop kept window) kept long,
     )
 
-pub refill-spec : {M : Type 1} → statement M
-refill-spec =
+pub read-behind-spec : {M : Type 1} → statement M
+read-behind-spec =
     tie.close
     (tie.spec
     move-front-requires
@@ -78,6 +67,5 @@ refill-spec =
     part-part-end
     read-requires
     count-requires
-    add-t13
     same-length
     returns)
