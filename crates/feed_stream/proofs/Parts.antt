@@ -3,7 +3,7 @@ use Prim.Native.Nat.{ℕ, _+_, _-_, _≤_}
 use native.Mathlib.Omega.{arith}
 use mathlib.Core.List.{List, [], _++_, append-nil}
 use mathlib.Core.Path.{_≡_, sym, ap, _∙_}
-use lib.ListN.{length, take, drop, length-drop, drop-of-length-le}
+use lib.ListN.{length, take, drop, length-drop, take-append-drop, drop-of-length-le}
 use lib.Seq.{slice, take-all, drop-at, length-take-le}
 use borrow.Rule.Slice.PartMut.{putMid}
 use Rattle.feed.proofs.Fields.{drop-take}
@@ -24,3 +24,7 @@ pub part-slice : (at end : ℕ) (l : List ℕ) → at ≤ end → take (end - at
 part-slice at end l h =
     let up : at + (end - at) ≡ end = omega arith in
     sym (drop-take at (end - at) l) ∙ ap (λ (n : ℕ). drop at (take n l)) up
+
+-- two lists whose parts before and behind a place are the same
+pub both-parts : (at : ℕ) (l m : List ℕ) → take at l ≡ take at m → drop at l ≡ drop at m → l ≡ m
+both-parts at l m e f = sym (take-append-drop at l) ∙ (λ i. e i ++ f i) ∙ take-append-drop at m

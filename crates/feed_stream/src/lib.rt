@@ -15,7 +15,7 @@ ghost use lib.Seq.{slice};
 ghost use Rattle.steps.specs.Step.{effectWith, stepped, progressWith, Kept, room};
 
 // One step on the bytes of the window that are not used yet, putting behind what is filled of the buffer.
-fn step_on(
+pub fn step_on(
     join: Join,
     a: &mut area::Places,
     b: &mut area::Places,

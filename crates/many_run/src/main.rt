@@ -1,13 +1,14 @@
 // Joins many feeds, each by its rule, and prints what is printed of each. Each is joined whole, and again through windows that grow by a byte at a time; it says so where the two differ.
+use feed_stream::step_on;
 use join::Join;
 use libc::STDIN_FILENO;
 use libc::STDOUT_FILENO;
 use pairing::Rule;
+use pipe::Flow;
 use steps::Counts;
 use steps::READ_LIMIT;
 use steps::ROOM;
 use steps::Went;
-use steps::step;
 use whole_feed::Printing;
 use whole_feed::print_feed;
 ghost use mathlib.Core.Path.{_≡_};
@@ -54,11 +55,10 @@ fn rule_in(kind: u32, width: u32) -> Rule {
 }
 
 // How many bytes may be read of a feed of this size.
-fn limit_of(by_limit: bool, size: usize) -> usize
+fn limit_of(by_limit: bool, size: usize) -> u32
     requires { ⌜ size ≤ 65536 ⌝ }
-    ensures { λ r. ⌜ r ≤ 4294967295 ⌝ }
 {
-    if by_limit { size } else { READ_LIMIT as usize }
+    if by_limit { size as u32 } else { READ_LIMIT }
 }
 
 // Is the input known to end here? Where the limit ends the feed, that is never told.
@@ -79,45 +79,31 @@ fn put_pieces(rule: Rule, feed: &[u8], by_limit: bool, out: &mut [u8]) -> usize
         records: 0,
         pairs: 0,
     };
-    let mut left = limit_of(by_limit, feed.len());
-    let mut at = 0;
-    let mut end = 0;
-    let mut filled = 0;
-    while ROOM <= out.len() - filled {
-        let window = &feed[at..end];
-        let ended = knows_end(by_limit, end, feed.len());
-        let free = &mut out[filled..];
-        let stepped = step(
-            join,
-            &mut a,
-            &mut b,
-            &mut rows,
-            counts,
-            left,
-            window,
-            ended,
-            free,
-        );
+    let mut flow = Flow::begun(limit_of(by_limit, feed.len()));
+    while ROOM <= out.len() - flow.filled {
+        let ended = knows_end(by_limit, flow.end, feed.len());
+        flow.ended = ended;
+        let stepped = step_on(join, &mut a, &mut b, &mut rows, counts, flow, feed, out);
         join = stepped.join;
         counts = stepped.counts;
-        left -= stepped.used;
-        at += stepped.used;
-        filled += stepped.filled;
+        flow.left -= stepped.used;
+        flow.at += stepped.used;
+        flow.filled += stepped.filled;
         let went = stepped.went;
         match went {
             Went::More => {
-                if feed.len() <= end {
-                    return filled;
+                if feed.len() <= flow.end {
+                    return flow.filled;
                 }
-                end += 1;
+                flow.end += 1;
             }
             Went::On => {}
             Went::Ended => {
-                return filled;
+                return flow.filled;
             }
         }
     }
-    filled
+    flow.filled
 }
 
 fn same(a: &[u8], b: &[u8]) -> bool {
