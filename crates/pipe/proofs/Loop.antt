@@ -9,6 +9,7 @@ use lib.ListN.{length}
 use Rattle.pipe.specs.declared.Flow.{Flow}
 use Rattle.pipe.specs.Flow.{Flowing, Refilled, begun, gone}
 
+-- how many bytes a large buffer has
 abbrev pub size : ℕ
 size = 65536
 
@@ -23,11 +24,12 @@ pub piped-begun : {window out : List ℕ} (limit room : ℕ) → room ≤ size �
 piped-begun limit room few w o =
     record { flowing = record { order = omega arith; in-window = omega arith; in-limit = omega arith; counted = omega arith }; roomy = omega arith; window-long = w; out-long = o }
 
--- how many bytes may still be read, and how many more a window may show while the end is not known
+-- how many more bytes a window may show, and the end behind them, if it is not known
 abbrev pub unknown : Bool → ℕ → ℕ
 unknown true shown = 0
 unknown false shown = suc size - shown
 
+-- The measure: each byte that is left counts twice, as using it makes the window show one less.
 abbrev pub remaining : Flow → ℕ
 remaining flow = 2 * flow .left + unknown (flow .ended) (flow .end - flow .at)
 

@@ -1,4 +1,5 @@
 // Standard input through a window, standard output through a buffer: all that a program does round its steps. It knows no join and no steps.
+// A program's loop is a step, which is shown what is not used of the window and puts out behind what is filled of the buffer, and one call by what the step came to: `refill`, `go_on` or `finish`.
 use framing::least;
 use libc::STDERR_FILENO;
 use libc::STDIN_FILENO;
@@ -125,7 +126,7 @@ impl Flow {
         self
     }
 
-    // After the last step, which put out so many bytes.
+    // After the last step, which put out so many bytes: all is written, and the place told where it did not end in `done`.
     pub fn finish(self, out: &[u8], last: usize, records: u32)
         requires { ⌜ (self .filled + last ≤ length (now out)) × (self .left ≤ self .limit) ⌝ }
     {

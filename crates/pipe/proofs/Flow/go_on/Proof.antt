@@ -1,6 +1,5 @@
--- `go_on` meets its contract.
+-- `go_on` meets its contract: what was used and put out is counted once.
 use borrow.Author.Needs.{needs}
-use mathlib.Core.Path.{_≡_}
 use Rattle.pipe.proofs.Flow.go_on.Statement.{statement}
 use Rattle.pipe.proofs.Flow.go_on.Tie as tie
 
