@@ -128,7 +128,7 @@ ready-closed (Open clock) b e p = absurd (false≢true e)
 ready-closed Closed (Open clock) e p = absurd (false≢true e)
 ready-closed Closed Closed e p = refl
 
-none-waits : (s : State) → bothClosed s ≡ true → readyOf s ≡ [] → waitingIn s ≡ []
+none-waits : (s : State) → bothClosed (s .join) ≡ true → readyOf s ≡ [] → waitingIn s ≡ []
 none-waits s closed none = sym (keep-all (readyIn s) (waitingIn s) (all-any (λ (p : Pair). readyIn s p ≡ true) (ready-closed (s .join .a .journal .gate) (s .join .b .journal .gate) closed) (waitingIn s))) ∙ none
 
 fresh-none : (rule : Rule) → readyNow (begin rule) ≡ []
@@ -136,16 +136,16 @@ unfolding freshState stateOf
 fresh-none rule = refl
 
 -- a last line begins with `done` where the feed ends with both closed, and nowhere else
-says-done : (stop : Stop) (p : Progress) → IsPrefix doneWord (lastLine stop p) → (stop ≡ FeedEnds) × (bothClosed (p .state) ≡ true)
+says-done : (stop : Stop) (p : Progress) → IsPrefix doneWord (lastLine stop p) → (stop ≡ FeedEnds) × (bothClosed (p .state .join) ≡ true)
 unfolding endLine refusedLine
-says-done FeedEnds p h = (refl, go (bothClosed (p .state)) h)
+says-done FeedEnds p h = (refl, go (bothClosed (p .state .join)) h)
   where
     go : (b : Bool) → IsPrefix doneWord (cond b doneWord openWord ++ line (p .records ∷ p .pairs ∷ [])) → b ≡ true
     go true k = refl
     go false k = absurd (let z : _≡_ {A = ℕ} 100 111 = cc (k .1) in omega arith)
 says-done (Refusal number) p h = absurd (let z : _≡_ {A = ℕ} 100 114 = cc (h .1) in omega arith)
 
-done-line : (w : World) (n : ℕ) → bothClosed (w .state) ≡ true → endLine (standing n w) ≡ doneWord ++ line (n ∷ length (w .out) ∷ [])
+done-line : (w : World) (n : ℕ) → bothClosed (w .state .join) ≡ true → endLine (standing n w) ≡ doneWord ++ line (n ∷ length (w .out) ∷ [])
 unfolding endLine
 done-line w n closed = rw closed
 

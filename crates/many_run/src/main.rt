@@ -1,5 +1,6 @@
 // Joins many feeds, each by its rule, and prints what is printed of each. Each is joined whole, and again through windows that grow by a byte at a time; it says so where the two differ.
 use feed_stream::step_on;
+use framing::Went;
 use join::Join;
 use libc::STDIN_FILENO;
 use libc::STDOUT_FILENO;
@@ -8,7 +9,6 @@ use pipe::Flow;
 use steps::Counts;
 use steps::READ_LIMIT;
 use steps::ROOM;
-use steps::Went;
 use whole_feed::Printing;
 use whole_feed::print_feed;
 ghost use mathlib.Core.Path.{_≡_};

@@ -10,7 +10,8 @@ use Rattle.journal.specs.declared.Answer.the-variants.{Refused}
 use Rattle.journal.specs.declared.Gate.the-variants.{Open, Closed}
 use Rattle.journal.specs.Journal.{markRows}
 use Rattle.join.specs.State.{State, Sound, view, stateOf}
-use Rattle.join.specs.Calls.{sideOf, entryRows, afterEntry, entryOn, entryCall, afterMove, markOn, markCall, closeRows, closeOn, closeCall}
+use Rattle.halves.specs.Calls.{entryRows, afterEntry, afterMove, closeRows}
+use Rattle.join.specs.Calls.{sideOf, entryOn, entryCall, markOn, markCall, closeOn, closeCall}
 use Rattle.join.proofs.Kept.{entry-kept, mark-kept, close-kept, entry-refused, mark-refused, close-refused}
 use Rattle.join.proofs.Laws.{judged-sound}
 use Rattle.feed.specs.declared.Record.{Record}

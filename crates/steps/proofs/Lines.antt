@@ -2,7 +2,7 @@
 use Prim.Native.Nat.{ℕ, zero, suc, _+_, _≤_, _<_}
 use native.Mathlib.Numerals.{add-one}
 use native.Mathlib.Omega.{arith}
-use mathlib.Core.Bool.{true, false}
+use mathlib.Core.Bool.{Bool, cond}
 use mathlib.Core.List.{List, [], _∷_, _++_, append-nil, map, flatMap}
 use mathlib.Core.Path.{_≡_, refl, sym, ap, _∙_}
 use lib.ListN.{length, take, getD, length-append}
@@ -17,7 +17,6 @@ use Rattle.pairing.specs.declared.Pair.{Pair}
 use Rattle.pairing.specs.Numbers.{pairNumbers, pairIn}
 use Rattle.queue.specs.declared.Queue.{Queue}
 use Rattle.queue.specs.Queue as queue
-use Rattle.journal.specs.Journal.{isClosed}
 use Rattle.join.specs.Calls.{bothClosed}
 use Rattle.lines.specs.Line.{line}
 use Rattle.lines.proofs.Decimals.{decimal-few}
@@ -60,12 +59,7 @@ module _ (waiting : Queue) (rows : Rows) (h : queue.Holds waiting rows) (k : ℕ
 pub last-few : (n m : ℕ) → n < 4294967296 → m < 1000000000000 → length (line (n ∷ m ∷ [])) ≤ 24
 last-few n m small few = omega (arith, length-two n m, decimal-few n 10 (omega arith) (lit< tt), decimal-few m 12 (omega arith) (lit< tt))
 
--- the word of a feed that ends
-module _ (p : Progress) where
-  pub end-done : isClosed (p .state .join .a .journal .gate) ≡ true → isClosed (p .state .join .b .journal .gate) ≡ true → endLine p ≡ doneWord ++ line (p .records ∷ p .pairs ∷ [])
-  unfolding endLine
-  end-done e f = rw (e, f)
-
-  pub end-open : bothClosed (p .state) ≡ false → endLine p ≡ openWord ++ line (p .records ∷ p .pairs ∷ [])
-  unfolding endLine
-  end-open e = rw e
+-- the word of a feed that ends, by whether both journals are closed
+pub end-word : (p : Progress) (closed : Bool) → bothClosed (p .state .join) ≡ closed → endLine p ≡ cond closed doneWord openWord ++ line (p .records ∷ p .pairs ∷ [])
+unfolding endLine
+end-word p closed e = rw e

@@ -46,7 +46,7 @@ refusedWord = 114 ∷ 101 ∷ 102 ∷ 117 ∷ 115 ∷ 101 ∷ 100 ∷ 32 ∷ []
 
 -- Its last line is `done`, records, pairs; with `open` in place of `done` if the feed ends and a journal is open.
 unfoldable pub endLine : Progress → List ℕ
-endLine p = cond (bothClosed (p .state)) doneWord openWord ++ line (p .records ∷ p .pairs ∷ [])
+endLine p = cond (bothClosed (p .state .join)) doneWord openWord ++ line (p .records ∷ p .pairs ∷ [])
 
 -- Or `refused`, the number, records accepted before.
 unfoldable pub refusedLine : ℕ → Progress → List ℕ

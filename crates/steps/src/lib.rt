@@ -129,12 +129,8 @@ fn put_end(out: &mut [u8], join: Join, counts: Counts) -> usize
     ensures { λ r. ⌜ ((inA inB rows : Rows) → r ≡ length (endLine (progressWith join inA inB rows counts))) ⌝ }
     ensures { λ _. ⌜ ((inA inB rows : Rows) → now (out .exit) ≡ put 0 (endLine (progressWith join inA inB rows counts)) (now (out .entry))) ⌝ }
 {
-    let journal_a = join.a.journal;
-    let gate_a = journal_a.gate;
-    let journal_b = join.b.journal;
-    let gate_b = journal_b.gate;
     let records = counts.records as u64;
-    if gate_a.closed() && gate_b.closed() {
+    if join.both_closed() {
         return put_last(out, b"done ", &[records, counts.pairs]);
     }
     put_last(out, b"open ", &[records, counts.pairs])

@@ -8,8 +8,10 @@ use mathlib.Core.Path.{_≡_, ap, _∙_}
 use denote.Ref.{now}
 use lib.ListN.{length, take, drop, length-drop}
 use lib.Seq.{slice, length-take-le}
-use Rattle.steps.specs.Step.{effectWith, stepped, progressWith}
-use Rattle.steps.proofs.Moves.{moves}
+use Rattle.framing.specs.Step.{stepped}
+use Rattle.framing.proofs.Moves.{moves}
+use Rattle.steps.specs.Printed.{joinfeed}
+use Rattle.steps.specs.Step.{effectWith, progressWith}
 use Rattle.feed_stream.proofs.Parts.{part-drop, drop-back, part-slice}
 use Rattle.feed_stream.proofs.step_on.Statement.{statement}
 use Rattle.feed_stream.proofs.step_on.Tie as tie
@@ -52,7 +54,7 @@ returns c =
     let p = progressWith (a .join) (now (a .a)) (now (a .b)) (now (a .rows)) (a .counts) in
     let left = a .flow .left in
     let e = t .ensures .0 in
-    let m = moves _ _ _ _ _ _ e in
+    let m = moves _ _ _ _ _ _ _ e in
     let free : take (length out - a .flow .filled) (drop (a .flow .filled) out) ≡ drop (a .flow .filled) out = part-drop (a .flow .filled) out (omega arith) in
     let part : take (a .flow .end - a .flow .at) (drop (a .flow .at) window) ≡ slice (a .flow .at) (a .flow .end) window = part-slice (a .flow .at) (a .flow .end) window (omega arith) in
     let as-lent : length (take (length out - a .flow .filled) (drop (a .flow .filled) out)) ≡ length out - a .flow .filled = ap length free ∙ length-drop (a .flow .filled) out in
@@ -65,8 +67,8 @@ returns c =
         (
           ap (effectWith (t .result) (t .last .1 .0) (t .last .1 .1 .0) (t .last .1 .1 .1 .0)) (drop-back (a .flow .filled) out (omega arith) back)
               ∙ e
-              ∙ ap (λ (l : List ℕ). stepped p left l (a .flow .ended) (take (length out - a .flow .filled) (drop (a .flow .filled) out))) part
-              ∙ ap (stepped p left (slice (a .flow .at) (a .flow .end) window) (a .flow .ended)) free,
+              ∙ ap (λ (l : List ℕ). stepped joinfeed p left l (a .flow .ended) (take (length out - a .flow .filled) (drop (a .flow .filled) out))) part
+              ∙ ap (stepped joinfeed p left (slice (a .flow .at) (a .flow .end) window) (a .flow .ended)) free,
           take-put (a .flow .filled) (length out - a .flow .filled) out back (omega arith),
         ),
       ),
