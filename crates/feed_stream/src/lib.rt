@@ -30,7 +30,7 @@ pub fn step_on(
 ) -> Stepped
     requires { ⌜ (Kept (progressWith join (now a) (now b) (now rows) counts) (flow .left)) × (flow .at ≤ flow .end) × (flow .end ≤ length (now window)) × (flow .filled + room ≤ length (now out)) ⌝ }
     ensures { λ r. ⌜ Kept (progressWith (r .join) (now (a .exit)) (now (b .exit)) (now (rows .exit)) (r .counts)) (flow .left - r .used) ⌝ }
-    ensures { λ r. ⌜ (r .used ≤ flow .left) × (flow .at + r .used ≤ flow .end) × (flow .filled + r .filled ≤ length (now (out .entry))) × (r .went ≡ Went.On → 4 ≤ r .used) × (r .went ≡ Went.More → (flow .ended ≡ false) × (flow .end - flow .at < 68) × (r .used ≡ 0)) ⌝ }
+    ensures { λ r. ⌜ (r .used ≤ flow .left) × (flow .at + r .used ≤ flow .end) × (flow .filled + r .filled ≤ length (now (out .entry))) × (r .went ≡ Went.On → shortestRecord ≤ r .used) × (r .went ≡ Went.More → (flow .ended ≡ false) × (flow .end - flow .at < longestRecord) × (r .used ≡ 0)) ⌝ }
     ensures { λ r. ⌜ effectWith r (now (a .exit)) (now (b .exit)) (now (rows .exit)) (drop (flow .filled) (now (out .exit))) ≡ stepped joinfeed (progressWith join (now (a .entry)) (now (b .entry)) (now (rows .entry)) counts) (flow .left) (slice (flow .at) (flow .end) (now (window .entry))) (flow .ended) (drop (flow .filled) (now (out .entry))) ⌝ }
     ensures { λ _. ⌜ take (flow .filled) (now (out .exit)) ≡ take (flow .filled) (now (out .entry)) ⌝ }
 {
