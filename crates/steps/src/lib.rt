@@ -190,13 +190,12 @@ fn take_in(
     ensures { λ r. ⌜ effectWith r (now (a .exit)) (now (b .exit)) (now (rows .exit)) (now (out .exit)) ≡ effectOf (progressWith join (now (a .entry)) (now (b .entry)) (now (rows .entry)) counts) (now (out .entry)) next (onRecord (progressWith join (now (a .entry)) (now (b .entry)) (now (rows .entry)) counts) «record») ⌝ }
 {
     let called = hear(join, a, b, rows, record);
-    let after = called.join;
     let answer = called.answer;
     let Answer::Refused(number) = answer else {
-        return hand_out(after, rows, counts, next, out);
+        return hand_out(called.join, rows, counts, next, out);
     };
     let filled = put_refused(out, number, counts.records);
-    stays(Went::Ended, after, counts, filled)
+    stays(Went::Ended, called.join, counts, filled)
 }
 
 // One step: the record that stands first in the window, if the window shows all that can matter to it. A refusal and the feed's end leave early.

@@ -28,8 +28,8 @@ enum-told c = search needs
 
 hand-out-requires : tie.Need-hand-out-requires
 hand-out-requires c κs =
-    let st = c .before .before .before .before .before .before .before .before .before .before in
-    let h = c .before .before .before .before .before .hear in
+    let st = c .before .before .before .before .before .before .before .before .before in
+    let h = c .before .before .before .before .hear in
     let s = stateWith (st .args .join) (st .args .a .now) (st .args .b .now) (st .args .rows .now) in
     let after = stateWith (h .result .join) (h .last .1 .0) (h .last .1 .1 .0) (h .last .1 .1 .1 .0) in
     let kept : Sound after = subst (λ (o : Outcome Answer). Sound (o .state)) (sym (h .ensures)) (heard-kept s (st .pre .0) (st .args .«record»)) in
@@ -40,8 +40,8 @@ same-length c = search needs
 
 returns : tie.Need-returns
 returns c =
-    let a = c .before .before .before .before .before .before .before .before .before .before .before .before .before .args in
-    let h = c .before .before .before .before .before .before .before .before .hear in
+    let a = c .before .before .before .before .before .before .before .before .before .before .before .before .args in
+    let h = c .before .before .before .before .before .before .before .hear in
     let p = progressWith (a .join) (a .a .now) (a .b .now) (a .rows .now) (a .counts) in
     let after = stateWith (h .result .join) (h .last .1 .0) (h .last .1 .1 .0) (h .last .1 .1 .1 .0) in
     let accepted : h .result .answer ≡ Accepted = c .before .before .before .before .before .enum-told .given .1 in
@@ -59,8 +59,8 @@ same-length-2 c = search needs
 
 returns-2 : tie.Need-returns-2
 returns-2 c =
-    let a = c .before .before .before .before .before .before .before .before .before .before .before .before .before .before .args in
-    let h = c .before .before .before .before .before .before .before .before .before .hear in
+    let a = c .before .before .before .before .before .before .before .before .before .before .before .before .before .args in
+    let h = c .before .before .before .before .before .before .before .before .hear in
     let s = stateWith (a .join) (a .a .now) (a .b .now) (a .rows .now) in
     let after = stateWith (h .result .join) (h .last .1 .0) (h .last .1 .1 .0) (h .last .1 .1 .1 .0) in
     let placed = c .before .before .before .put-refused in
