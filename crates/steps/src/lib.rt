@@ -25,7 +25,7 @@ ghost use Rattle.join.specs.Calls.{outcome};
 ghost use Rattle.feed.specs.Record.{streamKnown};
 ghost use Rattle.framing.specs.Step.{effectOf, stepped};
 ghost use Rattle.lines.specs.Line.{line};
-ghost use Rattle.steps.specs.Printed.{refusedWord, endLine, heard, taken, onRecord, joinfeed};
+ghost use Rattle.steps.specs.Printed.{refusedWord, endLine, heard, taken, joinfeed};
 ghost use Rattle.steps.specs.Step.{effectWith, progressWith, stays, Kept, Few, lineRoom, room};
 
 // How many bytes of a feed are read.
@@ -175,30 +175,7 @@ fn hand_out(
     }
 }
 
-// A record that was found: the join hears it, and what is then ready is put out.
-fn take_in(
-    join: Join,
-    a: &mut area::Places,
-    b: &mut area::Places,
-    rows: &mut queue::Places,
-    counts: Counts,
-    record: Record,
-    next: usize,
-    out: &mut [u8],
-) -> Stepped
-    requires { ⌜ (Sound (stateWith join (now a) (now b) (now rows))) × (streamKnown «record» ≡ true) × (room ≤ length (now out)) × (Few counts) ⌝ }
-    ensures { λ r. ⌜ effectWith r (now (a .exit)) (now (b .exit)) (now (rows .exit)) (now (out .exit)) ≡ effectOf (progressWith join (now (a .entry)) (now (b .entry)) (now (rows .entry)) counts) (now (out .entry)) next (onRecord (progressWith join (now (a .entry)) (now (b .entry)) (now (rows .entry)) counts) «record») ⌝ }
-{
-    let called = hear(join, a, b, rows, record);
-    let answer = called.answer;
-    let Answer::Refused(number) = answer else {
-        return hand_out(called.join, rows, counts, next, out);
-    };
-    let filled = put_refused(out, number, counts.records);
-    stays(Went::Ended, called.join, counts, filled)
-}
-
-// One step: the record that stands first in the window, if the window shows all that can matter to it. A refusal and the feed's end leave early.
+// One step: the record that stands first in the window, if the window shows all that can matter to it. A refused reading and the feed's end leave early. The join hears the record, and what is then ready is put out.
 pub fn step(
     join: Join,
     a: &mut area::Places,
@@ -226,5 +203,11 @@ pub fn step(
         let filled = put_refused(out, number, counts.records);
         return stays(Went::Ended, join, counts, filled);
     };
-    take_in(join, a, b, rows, counts, record, next, out)
+    let called = hear(join, a, b, rows, record);
+    let answer = called.answer;
+    let Answer::Refused(number) = answer else {
+        return hand_out(called.join, rows, counts, next, out);
+    };
+    let filled = put_refused(out, number, counts.records);
+    stays(Went::Ended, called.join, counts, filled)
 }
