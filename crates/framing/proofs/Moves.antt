@@ -16,7 +16,7 @@ use Rattle.feed.proofs.Locality.{long-shows}
 use Rattle.feed.proofs.Readings.{found-ends}
 use Rattle.framing.specs.declared.Went.the-variants.{More, On, Ended}
 use Rattle.framing.specs.Shown.{shown, tells}
-use Rattle.framing.specs.Program.{Deed, Ends, Goes, Program, deed}
+use Rattle.framing.specs.Program.{Deed, Ends, Goes, Program}
 use Rattle.framing.specs.Step.{Effect, effectOf, waits, done, stepped}
 
 pub record Moves {P : Type 0} (left : ℕ) (window : List ℕ) (ended : Bool) (out : List ℕ) (e : Effect P) : Type 0 where

@@ -1,5 +1,5 @@
 -- The text of a feed is put together step by step: what is put so far, and what is printed of the rest of the feed.
-use Prim.Native.Nat.{ℕ, zero, suc, _+_, _-_, _≤_, _<_}
+use Prim.Native.Nat.{ℕ, zero, suc, _+_, _≤_, _<_}
 use native.Mathlib.Omega.{arith}
 use mathlib.Core.Bool.{true}
 use mathlib.Core.List.{List, [], _++_, append-assoc}

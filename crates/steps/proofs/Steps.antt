@@ -17,7 +17,6 @@ use Rattle.join.specs.State.{State, Sound}
 use Rattle.join.specs.Calls.{Outcome, outcome, waitingIn, readyIn, readyOf, without}
 use Rattle.join.proofs.Kept.{sound-fresh, without-kept}
 use Rattle.join.proofs.Ready.{ready-few}
-use Rattle.feed.specs.declared.Record.{Record}
 use Rattle.feed.specs.Kind.{shortestRecord}
 use Rattle.framing.specs.declared.Went.the-variants.{Ended}
 use Rattle.framing.specs.Program.{Goes}
