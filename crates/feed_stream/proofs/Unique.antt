@@ -6,7 +6,7 @@ use Rattle.unique.specs.Unique.{OneOutcome}
 use Rattle.unique.proofs.Equation.{agree}
 use Rattle.lists.specs.Store.{Rows}
 use Rattle.steps.specs.declared.Stepped.{Stepped}
-use Rattle.feed_stream.proofs.Parts.{both-parts}
+use Rattle.framing.proofs.Parts.{both-parts}
 use Rattle.feed_stream.proofs.step_on.Reads as step-on
 
 one-step-on : OneOutcome {Seen = Stepped × (Rows × (Rows × (Rows × List ℕ)))}

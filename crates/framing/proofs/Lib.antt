@@ -1,4 +1,5 @@
 pub mod Moves
+pub mod Parts
 pub mod Steps
 pub mod Text
 pub mod Windows

@@ -12,7 +12,7 @@ use Rattle.framing.specs.Step.{stepped}
 use Rattle.framing.proofs.Moves.{moves}
 use Rattle.steps.specs.Printed.{joinfeed}
 use Rattle.steps.specs.Step.{effectWith, progressWith}
-use Rattle.feed_stream.proofs.Parts.{part-drop, drop-back, part-slice}
+use Rattle.framing.proofs.Parts.{part-drop, drop-back, part-slice}
 use Rattle.feed_stream.proofs.step_on.Statement.{statement}
 use Rattle.feed_stream.proofs.step_on.Tie as tie
 
