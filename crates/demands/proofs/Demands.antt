@@ -71,7 +71,7 @@ only-takes w h (Mark stream time) =
 only-takes w h (Close stream) =
     let side = sideOf stream in
     let v = view side (w .state) in
-    closed-refuses (v .own .gate) (closed-side side (w .state) h) (closeCall (w .state) stream .answer) (λ k. close-met v (judged-met (w .state) stream (closeRows v) k .rest))
+    closed-refuses (v .own .gate) (closed-side side (w .state) h) (closeCall (w .state) stream .answer) (λ k. close-met (v .own) (judged-met (w .state) stream (closeRows (v .own)) k .rest))
 only-takes w h Take = refl
 
 -- what Finished says

@@ -65,7 +65,7 @@ pub sound-number : (s : State) → Sound s → (c : Call) → numberAt s c < 8
 unfolding entryCall ownRows roomFor entryRows markCall closeCall
 sound-number s h (Enter stream e) = judged-number s h stream (entryRows (sideOf stream) (view (sideOf stream) s) e) refl
 sound-number s h (Mark stream time) = judged-number s h stream (markRows time (view (sideOf stream) s .own)) refl
-sound-number s h (Close stream) = judged-number s h stream (closeRows (view (sideOf stream) s)) refl
+sound-number s h (Close stream) = judged-number s h stream (closeRows (view (sideOf stream) s .own)) refl
 sound-number s h Take =
     let none : tookNumber (takeOn s .answer) ≡ 0 = next-number (readyIn s) (bothClosed (s .join)) (waitingIn s) in
     rw (take-sound s h) (omega arith)

@@ -8,6 +8,7 @@ use borrow.Author.Tests.{leb-false, ltb-false}
 use Rattle.pairing.specs.declared.Entry.{Entry}
 use Rattle.pairing.specs.declared.Side.{Side}
 use Rattle.journal.specs.declared.Answer.the-variants.{Accepted}
+use Rattle.journal.specs.declared.Journal.{Journal}
 use Rattle.journal.specs.Answer.{firstOf}
 use Rattle.journal.specs.Journal.{wanted, isClosed, ownRows}
 use Rattle.journal.proofs.Facts.{OwnMet, own-met}
@@ -46,5 +47,5 @@ entry-met side v e h =
     record { own = own-met (v .own) e (both .first); room = room-met side v e (both .then) }
 
 -- a close finds its journal open
-pub close-met : (v : View) → firstOf (closeRows v) ≡ Accepted → isClosed (v .own .gate) ≡ false
-close-met v h = accepted-rows (closeRows v) h .0
+pub close-met : (j : Journal) → firstOf (closeRows j) ≡ Accepted → isClosed (j .gate) ≡ false
+close-met j h = accepted-rows (closeRows j) h .0

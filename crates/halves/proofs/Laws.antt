@@ -93,19 +93,15 @@ module _ (halves : Halves) (mine others rows : Rows) (stand : Stand halves mine 
       let wait = waiting-length halves mine others rows (stand .holds-mine) (stand .holds-others) (stand .holds-rows) in
       λ i. roomFor (wanted (halves .other .journal .gate) e) (sym held i) (sym wait i + n i)
 
-  -- refused, it leaves all as it stood
-  pub left-refused : (answer : Answer) (number : ℕ) → answer ≡ Refused number → Leaves (unlessRefused answer (afterEntry side shown e) shown) halves mine others rows
-  left-refused answer number f = rw f (leaves-seen halves mine others rows (stand .holds-mine) (stand .holds-others) (stand .holds-rows))
-
-  pub left-admitted : (answer : Answer) → answer ≡ Accepted → (halves′ : Halves) (mine′ others′ rows′ : Rows) → Leaves (afterEntry side shown e) halves′ mine′ others′ rows′
-      → Leaves (unlessRefused answer (afterEntry side shown e) shown) halves′ mine′ others′ rows′
-  left-admitted answer f halves′ mine′ others′ rows′ l = rw f l
-
 -- ---- what is left of halves whose places store what they hold
 
 module _ (halves : Halves) (mine others rows : Rows) (m : area.Holds (halves .own .area) mine) (o : area.Holds (halves .other .area) others) (w : queue.Holds (halves .queue) rows) where
   abbrev v : View
   v = seen halves mine others rows
+
+  -- by a call that is refused: all as it stood
+  pub left-refused : (after : View) (answer : Answer) (number : ℕ) → answer ≡ Refused number → Leaves (unlessRefused answer after v) halves mine others rows
+  left-refused after answer number f = rw f (leaves-seen halves mine others rows m o w)
 
   -- by the steps of an admitted entry
   pub admitted : (side : Side) (e : Entry) (after : Journal) (kept left : Area) (merged : Queue) (mine′ others′ rows′ : Rows) → after ≡ entered e (halves .own .journal)
@@ -133,3 +129,7 @@ module _ (halves : Halves) (mine others rows : Rows) (m : area.Holds (halves .ow
         others-rows = q;
         queue-rows = all .queue-rows;
       }
+
+-- by a call that is accepted: what it would leave
+pub left-accepted : (v after : View) (answer : Answer) → answer ≡ Accepted → (halves : Halves) (mine others rows : Rows) → Leaves after halves mine others rows → Leaves (unlessRefused answer after v) halves mine others rows
+left-accepted v after answer f halves mine others rows l = rw f l

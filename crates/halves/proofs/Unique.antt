@@ -10,6 +10,9 @@ use Rattle.lists.specs.Store.{Rows}
 use Rattle.lists.proofs.Store.{stores-stored}
 use Rattle.pairing.specs.Numbers.{pairNumbers, pairIn}
 use Rattle.pairing.proofs.Numbers.{pair-numbers}
+use Rattle.journal.specs.declared.Gate.{Gate}
+use Rattle.journal.specs.declared.Gate.the-variants.{Open, Closed}
+use Rattle.journal.specs.Answer.{unlessRefused}
 use Rattle.area.specs.declared.Area.{Area}
 use Rattle.area.specs.Area as area
 use Rattle.area.proofs.Laws.{held-row}
@@ -17,11 +20,14 @@ use Rattle.queue.specs.declared.Queue.{Queue}
 use Rattle.queue.specs.Queue as queue
 use Rattle.halves.specs.declared.Halves.{Halves}
 use Rattle.halves.specs.declared.Entered.{Entered}
-use Rattle.halves.specs.View.{View, Leaves}
+use Rattle.halves.specs.View.{View, Leaves, seen}
+use Rattle.halves.specs.Calls.{afterMove}
 use Rattle.halves.proofs.Halves.room_answer.Reads as room-answer
 use Rattle.halves.proofs.Halves.admit.Reads as admit
 use Rattle.halves.proofs.Halves.enter.Reads as enter
 use Rattle.halves.proofs.Halves.shift.Reads as shift
+use Rattle.halves.proofs.Halves.mark.Reads as mark
+use Rattle.halves.proofs.Halves.close.Reads as close
 
 one-room-answer : OneResult room-answer.Post
 one-room-answer = one-by-equation _ _
@@ -55,3 +61,22 @@ one-shift κs args x y left other p q =
     let w = spare-queue (self .queue) (p .0 .2) in
     let e = stored-once _ x y _ _ _ _ _ _ (p .1 _ _ m w) (q .1 _ _ m w) in
     λ i. (e i .0, e i .2)
+
+-- so does a mark, and a close
+abbrev AfterMoved : Halves → Gate → Rows → Entered → Rows → Type 0
+AfterMoved self gate others r left =
+    (mine rows : Rows) → area.Holds (self .own .area) mine → queue.Holds (self .queue) rows → Leaves (unlessRefused (r .answer) (afterMove gate (seen self mine others rows)) (seen self mine others rows)) (r .halves) mine left rows
+
+one-moved : (self : Halves) → self .own .area .count ≤ area.places → self .queue .count ≤ queue.places → (gate : Gate) (others : Rows) (x y : Entered) (o o′ : Rows) → x .answer ≡ y .answer
+    → AfterMoved self gate others x o → AfterMoved self gate others y o′ → _≡_ {A = Entered × Rows} (x, o) (y, o′)
+one-moved self few short gate others x y o o′ same p q =
+    let m = spare-area (self .own .area) few in
+    let w = spare-queue (self .queue) short in
+    let e = stored-once _ (x .halves) (y .halves) _ _ _ _ _ _ (rw same at (p _ _ m w)) (q _ _ m w) in
+    λ i. (record { answer = same i; halves = e i .0 }, e i .2)
+
+one-mark : OneOutcome {Seen = Entered × Rows} (λ κs r left. (r, now (left .1 .0))) (λ κs args r left. mark.Pre κs args × mark.Post κs args r left)
+one-mark κs args x y left other p q = one-moved (args .0) (p .0 .1) (p .0 .2) (Open (args .1 .1 .0)) (now (args .1 .0)) x y _ _ (agree (p .1 .0) (q .1 .0)) (p .1 .1) (q .1 .1)
+
+one-close : OneOutcome {Seen = Entered × Rows} (λ κs r left. (r, now (left .1 .0))) (λ κs args r left. close.Pre κs args × close.Post κs args r left)
+one-close κs args x y left other p q = one-moved (args .0) (p .0 .1) (p .0 .2) Closed (now (args .1 .0)) x y _ _ (agree (p .1 .0) (q .1 .0)) (p .1 .1) (q .1 .1)

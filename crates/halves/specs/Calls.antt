@@ -14,6 +14,7 @@ use Rattle.pairing.specs.Pair.{comesBefore}
 use Rattle.pairing.specs.Side.{newPairs}
 use Rattle.journal.specs.declared.Gate.{Gate}
 use Rattle.journal.specs.declared.Gate.the-variants.{Open}
+use Rattle.journal.specs.declared.Journal.{Journal}
 use Rattle.journal.specs.Journal.{wanted, isClosed, moved, entered, ownRows}
 use Rattle.area.specs.Area as area
 use Rattle.queue.specs.Queue as queue
@@ -66,5 +67,5 @@ afterMove gate v = record {
 }
 
 -- a close is refused with 2; a mark follows the rows of its journal alone
-abbrev pub closeRows : View → List Check
-closeRows v = (isClosed (v .own .gate) gives 2) ∷ []
+abbrev pub closeRows : Journal → List Check
+closeRows j = (isClosed (j .gate) gives 2) ∷ []

@@ -15,11 +15,11 @@ ghost use Prim.Native.Nat.{_+_, _≤_, _<_};
 ghost use lib.ListN.{length};
 ghost use Rattle.lists.specs.Store.{Rows};
 ghost use Rattle.journal.specs.Answer.{firstOf, unlessRefused};
-ghost use Rattle.journal.specs.Journal.{wanted, ownRows};
+ghost use Rattle.journal.specs.Journal.{wanted, ownRows, markRows};
 ghost use Rattle.area.specs.Area as the_area;
 ghost use Rattle.queue.specs.Queue as the_queue;
 ghost use Rattle.halves.specs.View.{Stand, Leaves, seen};
-ghost use Rattle.halves.specs.Calls.{formed, roomFor, roomRows, entryRows, afterEntry, afterMove};
+ghost use Rattle.halves.specs.Calls.{formed, roomFor, roomRows, entryRows, afterEntry, afterMove, closeRows};
 
 // A journal, and how much its area holds.
 pub struct Half {
@@ -35,7 +35,7 @@ pub struct Halves {
     pub queue: Queue,
 }
 
-// The halves after an entry, and what that was answered.
+// The halves after an entry, a mark or a close, and what that was answered.
 pub struct Entered {
     pub answer: Answer,
     pub halves: Halves,
@@ -174,6 +174,46 @@ impl Halves {
                 area: left,
             },
             queue,
+        }
+    }
+
+    // A mark: what its journal alone answers, and where that is accepted the gate moved.
+    pub fn mark(self, others: &mut area::Places, time: u32) -> Entered
+        requires { ⌜ (the_area.Holds (self .other .area) (now others)) × (self .own .area .count ≤ the_area.places) × (self .queue .count ≤ the_queue.places) ⌝ }
+        ensures { λ r. ⌜ r .answer ≡ firstOf (markRows time (self .own .journal)) ⌝ }
+        ensures { λ r. ⌜ ((mine rows : Rows) → the_area.Holds (self .own .area) mine → the_queue.Holds (self .queue) rows → Leaves (unlessRefused (r .answer) (afterMove (Gate.Open time) (seen self mine (now (others .entry)) rows)) (seen self mine (now (others .entry)) rows)) (r .halves) mine (now (others .exit)) rows) ⌝ }
+    {
+        let journal = self.own.journal;
+        let marked = journal.mark(time);
+        let answer = marked.answer;
+        let Answer::Accepted = answer else {
+            return Entered {
+                answer,
+                halves: self,
+            };
+        };
+        let halves = self.shift(others, Gate::Open(time));
+        Entered { answer, halves }
+    }
+
+    // A close: refused where the journal is closed.
+    pub fn close(self, others: &mut area::Places) -> Entered
+        requires { ⌜ (the_area.Holds (self .other .area) (now others)) × (self .own .area .count ≤ the_area.places) × (self .queue .count ≤ the_queue.places) ⌝ }
+        ensures { λ r. ⌜ r .answer ≡ firstOf (closeRows (self .own .journal)) ⌝ }
+        ensures { λ r. ⌜ ((mine rows : Rows) → the_area.Holds (self .own .area) mine → the_queue.Holds (self .queue) rows → Leaves (unlessRefused (r .answer) (afterMove Gate.Closed (seen self mine (now (others .entry)) rows)) (seen self mine (now (others .entry)) rows)) (r .halves) mine (now (others .exit)) rows) ⌝ }
+    {
+        let journal = self.own.journal;
+        let gate = journal.gate;
+        if gate.closed() {
+            return Entered {
+                answer: Answer::Refused(refusals::CLOSED),
+                halves: self,
+            };
+        }
+        let halves = self.shift(others, Gate::Closed);
+        Entered {
+            answer: Answer::Accepted,
+            halves,
         }
     }
 }

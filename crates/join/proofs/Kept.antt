@@ -126,7 +126,7 @@ module _ (s : State) (h : Sound s) where
   unfolding closeCall
   close-kept stream =
       let side = sideOf stream in
-      judged-kept stream (closeRows (view side s)) (stateOf side (afterMove Closed (view side s))) (λ a. closed side)
+      judged-kept stream (closeRows (view side s .own)) (stateOf side (afterMove Closed (view side s))) (λ a. closed side)
 
   -- the same below the judge
   pub entryOn-kept : (side : Side) (e : Entry) → Sound (entryOn s side e .state)
@@ -136,7 +136,7 @@ module _ (s : State) (h : Sound s) where
   markOn-kept side time = called-kept (markRows time (view side s .own)) (stateOf side (afterMove (Open time) (view side s))) (marked side time)
 
   pub closeOn-kept : (side : Side) → Sound (closeOn s side .state)
-  closeOn-kept side = called-kept (closeRows (view side s)) (stateOf side (afterMove Closed (view side s))) (λ rows. closed side)
+  closeOn-kept side = called-kept (closeRows (view side s .own)) (stateOf side (afterMove Closed (view side s))) (λ rows. closed side)
 
   -- the first k waiting pairs dropped
   pub without-kept : (k : ℕ) → Sound (without k s)
@@ -194,7 +194,7 @@ module _ (s : State) where
   unfolding closeCall
   close-refused stream number r =
       let side = sideOf stream in
-      called-refused (judgeRows s stream ++ closeRows (view side s)) (stateOf side (afterMove Closed (view side s))) number r
+      called-refused (judgeRows s stream ++ closeRows (view side s .own)) (stateOf side (afterMove Closed (view side s))) number r
 
   pub take-refused : (number : ℕ) → takeCall s .answer ≡ Refused number → takeCall s .state ≡ s
   unfolding takeCall

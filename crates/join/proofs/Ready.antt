@@ -124,7 +124,7 @@ module _ (s : State) (h : Sound s) where
   unfolding closeCall
   close-grows stream =
       let side = sideOf stream in
-      judged-grows stream (closeRows (view side s)) (stateOf side (afterMove Closed (view side s))) (λ a. grows-move s h side Closed (onward-closed (view side s .own .gate)))
+      judged-grows stream (closeRows (view side s .own)) (stateOf side (afterMove Closed (view side s))) (λ a. grows-move s h side Closed (onward-closed (view side s .own .gate)))
 
 -- ---- a take
 

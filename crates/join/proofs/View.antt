@@ -3,10 +3,13 @@ use mathlib.Core.Path.{_≡_, refl, sym, ap, _∙_}
 use Rattle.lists.specs.Store.{Rows}
 use Rattle.pairing.specs.declared.Side.{Side}
 use Rattle.pairing.specs.declared.Side.the-variants.{A, B}
+use Rattle.area.specs.Area as area
+use Rattle.queue.specs.Queue as queue
 use Rattle.halves.specs.declared.Halves.{Halves}
-use Rattle.halves.specs.View.{View, Leaves}
+use Rattle.halves.specs.View.{View, Leaves, seen}
 use Rattle.halves.proofs.View.{seen-stored, leaves-seen, across, turned}
-use Rattle.join.specs.State.{State, Sound, stateWith, seenFrom, joinOf, view, stateOf}
+use Rattle.join.specs.declared.Join.{Join}
+use Rattle.join.specs.State.{State, stateWith, seenFrom, joinOf, view, stateOf}
 use Rattle.join.specs.Calls.{waitingIn}
 
 -- what a side sees of the state that it sees so
@@ -35,22 +38,36 @@ view-waiting B s = refl
 
 -- ---- halves and places that store what a side sees
 
--- as the state that they are, the places of the side's own area first
-abbrev pub stateFrom : Side → Halves → Rows → Rows → Rows → State
-stateFrom A halves mine others rows = stateWith (joinOf A halves) mine others rows
-stateFrom B halves mine others rows = stateWith (joinOf B halves) others mine rows
+-- the places of a side's own area, and of the other
+abbrev pub mineIn : Side → State → Rows
+mineIn A s = s .inA
+mineIn B s = s .inB
 
-pub stateFrom-leaves : (side : Side) (v : View) (halves : Halves) (mine others rows : Rows) → Leaves v halves mine others rows → stateFrom side halves mine others rows ≡ stateOf side v
+abbrev pub othersIn : Side → State → Rows
+othersIn A s = s .inB
+othersIn B s = s .inA
+
+-- a join and its places, those of the side's own area first
+abbrev pub stateFrom : Side → Join → Rows → Rows → Rows → State
+stateFrom A join mine others rows = stateWith join mine others rows
+stateFrom B join mine others rows = stateWith join others mine rows
+
+pub seen-view : (side : Side) (s : State) → seen (seenFrom side (s .join)) (mineIn side s) (othersIn side s) (s .rows) ≡ view side s
+unfolding view
+seen-view A s = refl
+seen-view B s = refl
+
+pub stateFrom-leaves : (side : Side) (v : View) (halves : Halves) (mine others rows : Rows) → Leaves v halves mine others rows → stateFrom side (joinOf side halves) mine others rows ≡ stateOf side v
 unfolding stateOf
 stateFrom-leaves A v halves mine others rows l = λ i. stateWith (joinOf A (l .both i)) (l .mine-rows i) (l .others-rows i) (l .queue-rows i)
 stateFrom-leaves B v halves mine others rows l = λ i. stateWith (joinOf B (l .both i)) (l .others-rows i) (l .mine-rows i) (l .queue-rows i)
 
--- a sound state is the stored form of what it holds
-stored-from-a : (s : State) → Sound s → stateOf A (view A s) ≡ s
-unfolding view
-stored-from-a s h =
-    sym (stateFrom-leaves A (view A s) (seenFrom A (s .join)) (s .inA) (s .inB) (s .rows) (leaves-seen (seenFrom A (s .join)) (s .inA) (s .inB) (s .rows) (h .holdsA) (h .holdsB) (h .holdsQueue)))
+-- a state whose places store what it holds is the stored form of what a side sees
+module _ (s : State) (a : area.Holds (s .join .a .area) (s .inA)) (b : area.Holds (s .join .b .area) (s .inB)) (q : queue.Holds (s .join .queue) (s .rows)) where
+  stored-from-a : stateOf A (view A s) ≡ s
+  unfolding view
+  stored-from-a = sym (stateFrom-leaves A (view A s) (seenFrom A (s .join)) (s .inA) (s .inB) (s .rows) (leaves-seen (seenFrom A (s .join)) (s .inA) (s .inB) (s .rows) a b q))
 
-pub stateOf-view : (side : Side) (s : State) → Sound s → stateOf side (view side s) ≡ s
-stateOf-view A s h = stored-from-a s h
-stateOf-view B s h = ap (stateOf B) (view-across A s) ∙ stateOf-across A (view A s) ∙ stored-from-a s h
+  pub stateOf-view : (side : Side) → stateOf side (view side s) ≡ s
+  stateOf-view A = stored-from-a
+  stateOf-view B = ap (stateOf B) (view-across A s) ∙ stateOf-across A (view A s) ∙ stored-from-a

@@ -62,12 +62,12 @@ markCall s stream time =
     called s (judgeRows s stream ++ markRows time (view side s .own)) (stateOf side (afterMove (Open time) (view side s)))
 
 abbrev pub closeOn : State → Side → Outcome Answer
-closeOn s side = called s (closeRows (view side s)) (stateOf side (afterMove Closed (view side s)))
+closeOn s side = called s (closeRows (view side s .own)) (stateOf side (afterMove Closed (view side s)))
 
 unfoldable pub closeCall : State → ℕ → Outcome Answer
 closeCall s stream =
     let side = sideOf stream in
-    called s (judgeRows s stream ++ closeRows (view side s)) (stateOf side (afterMove Closed (view side s)))
+    called s (judgeRows s stream ++ closeRows (view side s .own)) (stateOf side (afterMove Closed (view side s)))
 
 -- ---- a take
 

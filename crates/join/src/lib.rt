@@ -4,7 +4,6 @@ use halves::Entered;
 use halves::Half;
 use halves::Halves;
 use journal::Answer;
-use journal::Gate;
 use journal::Journal;
 use pairing::Entry;
 use pairing::Pair;
@@ -22,8 +21,7 @@ ghost use Rattle.lists.specs.Store.{Rows};
 ghost use Rattle.pairing.specs.Pair.{comesBefore};
 ghost use Rattle.area.specs.Area as the_area;
 ghost use Rattle.queue.specs.Queue as the_queue;
-ghost use Rattle.halves.specs.Calls.{afterMove};
-ghost use Rattle.join.specs.State.{Sound, sound, stateWith, freshState, seenFrom, joinOf, view, stateOf};
+ghost use Rattle.join.specs.State.{Sound, sound, stateWith, freshState, seenFrom, joinOf};
 ghost use Rattle.join.specs.Calls.{outcome, sideOf, bothClosed, entryOn, markOn, closeOn, takeOn, entryCall, markCall, closeCall, takeCall, without};
 
 // What goes by value of a join. The held entries and the waiting pairs stand in places that the caller lends to each call.
@@ -179,6 +177,7 @@ pub fn side_of(stream: u16) -> Side
 }
 
 // The calls after judging: for a program that starts from a fresh join and keeps it sound, and for the public calls below.
+// Each arm names its side once more, so that no copy of the join is turned at run time.
 impl Join {
     pub fn entry_on(
         self,
@@ -191,22 +190,15 @@ impl Join {
         requires { ⌜ Sound (stateWith self (now a) (now b) (now rows)) ⌝ }
         ensures { λ r. ⌜ outcome (r .answer) (stateWith (r .join) (now (a .exit)) (now (b .exit)) (now (rows .exit))) ≡ entryOn (stateWith self (now (a .entry)) (now (b .entry)) (now (rows .entry))) side e ⌝ }
     {
-        let halves = self.seen_from(side);
         match side {
-            Side::A => Called::of(side, halves.enter(side, a, b, rows, e)),
-            Side::B => Called::of(side, halves.enter(side, b, a, rows, e)),
-        }
-    }
-
-    // The gate of a side moved, and the other side's area cleared by it.
-    fn move_on(self, a: &mut area::Places, b: &mut area::Places, side: Side, gate: Gate) -> Join
-        requires { ⌜ (the_area.Holds (self .a .area) (now a)) × (the_area.Holds (self .b .area) (now b)) × (self .queue .count ≤ the_queue.places) ⌝ }
-        ensures { λ r. ⌜ ((rows : Rows) → the_queue.Holds (self .queue) rows → stateWith r (now (a .exit)) (now (b .exit)) rows ≡ stateOf side (afterMove gate (view side (stateWith self (now (a .entry)) (now (b .entry)) rows)))) ⌝ }
-    {
-        let halves = self.seen_from(side);
-        match side {
-            Side::A => Join::of(side, halves.shift(b, gate)),
-            Side::B => Join::of(side, halves.shift(a, gate)),
+            Side::A => Called::of(
+                Side::A,
+                self.seen_from(Side::A).enter(Side::A, a, b, rows, e),
+            ),
+            Side::B => Called::of(
+                Side::B,
+                self.seen_from(Side::B).enter(Side::B, b, a, rows, e),
+            ),
         }
     }
 
@@ -220,34 +212,19 @@ impl Join {
         requires { ⌜ (the_area.Holds (self .a .area) (now a)) × (the_area.Holds (self .b .area) (now b)) × (self .queue .count ≤ the_queue.places) ⌝ }
         ensures { λ r. ⌜ ((rows : Rows) → the_queue.Holds (self .queue) rows → outcome (r .answer) (stateWith (r .join) (now (a .exit)) (now (b .exit)) rows) ≡ markOn (stateWith self (now (a .entry)) (now (b .entry)) rows) side time) ⌝ }
     {
-        let halves = self.seen_from(side);
-        let journal = halves.own.journal;
-        let marked = journal.mark(time);
-        let answer = marked.answer;
-        let Answer::Accepted = answer else {
-            return Called { answer, join: self };
-        };
-        let join = self.move_on(a, b, side, Gate::Open(time));
-        Called { answer, join }
+        match side {
+            Side::A => Called::of(Side::A, self.seen_from(Side::A).mark(b, time)),
+            Side::B => Called::of(Side::B, self.seen_from(Side::B).mark(a, time)),
+        }
     }
 
     pub fn close_on(self, a: &mut area::Places, b: &mut area::Places, side: Side) -> Called
         requires { ⌜ (the_area.Holds (self .a .area) (now a)) × (the_area.Holds (self .b .area) (now b)) × (self .queue .count ≤ the_queue.places) ⌝ }
         ensures { λ r. ⌜ ((rows : Rows) → the_queue.Holds (self .queue) rows → outcome (r .answer) (stateWith (r .join) (now (a .exit)) (now (b .exit)) rows) ≡ closeOn (stateWith self (now (a .entry)) (now (b .entry)) rows) side) ⌝ }
     {
-        let halves = self.seen_from(side);
-        let journal = halves.own.journal;
-        let gate = journal.gate;
-        if gate.closed() {
-            return Called {
-                answer: Answer::Refused(refusals::CLOSED),
-                join: self,
-            };
-        }
-        let join = self.move_on(a, b, side, Gate::Closed);
-        Called {
-            answer: Answer::Accepted,
-            join,
+        match side {
+            Side::A => Called::of(Side::A, self.seen_from(Side::A).close(b)),
+            Side::B => Called::of(Side::B, self.seen_from(Side::B).close(a)),
         }
     }
 

@@ -5,7 +5,8 @@ use mathlib.Core.Path.{sym, ap, _∙_}
 use Rattle.journal.specs.Answer.{firstOf}
 use Rattle.area.proofs.Laws.{holds-length}
 use Rattle.halves.specs.View.{seen}
-use Rattle.halves.proofs.Laws.{answer-own, answer-room, partners-formed, partners-placed, room-counted, left-refused, left-admitted}
+use Rattle.halves.specs.Calls.{afterEntry}
+use Rattle.halves.proofs.Laws.{answer-own, answer-room, partners-formed, partners-placed, room-counted, left-refused, left-accepted}
 use Rattle.halves.proofs.Halves.enter.Statement.{statement}
 use Rattle.halves.proofs.Halves.enter.Tie as tie
 
@@ -25,7 +26,7 @@ returns c =
     let v = seen (st .args .self) (st .args .mine .now) (st .args .others .now) (st .args .rows .now) in
     let refused = c .enum-told2 .given .1 in (
       answer-own (st .args .side) v (st .args .e) (asked .own-answer .result) _ (asked .own-answer .ensures) refused,
-      left-refused (st .args .self) (st .args .mine .now) (st .args .others .now) (st .args .rows .now) (st .pre) (st .args .side) (st .args .e) (asked .own-answer .result) _ refused,
+      left-refused (st .args .self) (st .args .mine .now) (st .args .others .now) (st .args .rows .now) (st .pre .holds-mine) (st .pre .holds-others) (st .pre .holds-rows) (afterEntry (st .args .side) v (st .args .e)) (asked .own-answer .result) _ refused,
     )
 
 partners-requires : tie.Need-partners-requires
@@ -55,7 +56,7 @@ returns-2 c =
     let new = partners-formed (st .args .self) (st .args .mine .now) (st .args .others .now) (st .args .rows .now) (st .pre) (st .args .side) (st .args .e) _ (counted .partners .ensures) in
     let room = room-counted (st .args .self) (st .args .mine .now) (st .args .others .now) (st .args .rows .now) (st .pre) (st .args .side) (st .args .e) _ new in (
       answer-room (st .args .side) v (st .args .e) (judged .room-answer .result) (sym (asked .own-answer .ensures) ∙ told .enum-told .given .1) (judged .room-answer .ensures ∙ ap firstOf room),
-      left-refused (st .args .self) (st .args .mine .now) (st .args .others .now) (st .args .rows .now) (st .pre) (st .args .side) (st .args .e) (judged .room-answer .result) _ (c .enum-told4 .given .1),
+      left-refused (st .args .self) (st .args .mine .now) (st .args .others .now) (st .args .rows .now) (st .pre .holds-mine) (st .pre .holds-others) (st .pre .holds-rows) (afterEntry (st .args .side) v (st .args .e)) (judged .room-answer .result) _ (c .enum-told4 .given .1),
     )
 
 admit-requires : tie.Need-admit-requires
@@ -82,7 +83,7 @@ returns-3 c =
     let new = partners-formed (st .args .self) (st .args .mine .now) (st .args .others .now) (st .args .rows .now) (st .pre) (st .args .side) (st .args .e) _ (counted .partners .ensures) in
     let room = room-counted (st .args .self) (st .args .mine .now) (st .args .others .now) (st .args .rows .now) (st .pre) (st .args .side) (st .args .e) _ new in (
       answer-room (st .args .side) v (st .args .e) (judged .room-answer .result) (sym (asked .own-answer .ensures) ∙ told .enum-told .given .1) (judged .room-answer .ensures ∙ ap firstOf room),
-      left-admitted (st .args .self) (st .args .mine .now) (st .args .others .now) (st .args .rows .now) (st .pre) (st .args .side) (st .args .e) (judged .room-answer .result) (passed .enum-told3 .given .1) (c .admit .result) _ _ _ (c .admit .ensures),
+      left-accepted v (afterEntry (st .args .side) v (st .args .e)) (judged .room-answer .result) (passed .enum-told3 .given .1) (c .admit .result) _ _ _ (c .admit .ensures),
     )
 
 pub enter-spec : {M : Type 1} → statement M

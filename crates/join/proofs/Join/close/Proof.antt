@@ -20,7 +20,7 @@ returns c =
     let st = c .before .before .before .before in
     let s = (stateWith (st .args .self) (st .args .a .now) (st .args .b .now) (st .args .rows .now)) in
     let side = sideOf (st .args .stream) in
-    judged-unsound s (st .args .stream) (closeRows (view side s)) (stateOf side (afterMove Closed (view side s))) (sym (c .before .sound .ensures .0) ∙ not-true _ (c .if1 .taken))
+    judged-unsound s (st .args .stream) (closeRows (view side s .own)) (stateOf side (afterMove Closed (view side s))) (sym (c .before .sound .ensures .0) ∙ not-true _ (c .if1 .taken))
 
 returns-2 : tie.Need-returns-2
 unfolding closeCall
@@ -28,7 +28,7 @@ returns-2 c =
     let st = c .before .before .before .before .before in
     let s = (stateWith (st .args .self) (st .args .a .now) (st .args .b .now) (st .args .rows .now)) in
     let side = sideOf (st .args .stream) in
-    judged-neither s (st .args .stream) (closeRows (view side s)) (stateOf side (afterMove Closed (view side s))) (sym (c .before .before .sound .ensures .0) ∙ not-false _ (c .before .if1 .left)) (c .if2 .taken)
+    judged-neither s (st .args .stream) (closeRows (view side s .own)) (stateOf side (afterMove Closed (view side s))) (sym (c .before .before .sound .ensures .0) ∙ not-false _ (c .before .if1 .left)) (c .if2 .taken)
 
 side-of-requires : tie.Need-side-of-requires
 side-of-requires c κs = search needs
@@ -46,7 +46,7 @@ returns-3 c =
     let side = sideOf (st .args .stream) in
     c .close-on .ensures (st .args .rows .now) (c .before .before .before .before .before .before .sound .ensures .1 (not-false _ (c .before .before .before .before .before .if1 .left)) .holdsQueue)
     ∙ ap (λ (x : Side). closeOn s x) (c .before .side-of .ensures)
-    ∙ judged-sound s (st .args .stream) (closeRows (view side s)) (stateOf side (afterMove Closed (view side s))) (sym (c .before .before .before .before .before .before .sound .ensures .0) ∙ not-false _ (c .before .before .before .before .before .if1 .left)) (c .before .before .before .before .if2 .left)
+    ∙ judged-sound s (st .args .stream) (closeRows (view side s .own)) (stateOf side (afterMove Closed (view side s))) (sym (c .before .before .before .before .before .before .sound .ensures .0) ∙ not-false _ (c .before .before .before .before .before .if1 .left)) (c .before .before .before .before .if2 .left)
 
 pub close-spec : {M : Type 1} → statement M
 close-spec =

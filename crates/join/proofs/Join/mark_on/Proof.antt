@@ -1,65 +1,93 @@
--- `mark_on` meets its contract: the mark of the journal alone decides, and an accepted one moves the gate.
+-- `mark_on` meets its contract: a mark of A clears B's area, one of B clears A's.
 use borrow.Author.Needs.{needs}
-use mathlib.Core.Path.{ap, _∙_}
-use Rattle.journal.specs.declared.Journal.{Journal}
+use mathlib.Core.List.{[]}
+use mathlib.Core.Path.{sym, ap, _∙_}
+use Rattle.lists.specs.Store.{Rows}
+use Rattle.pairing.specs.declared.Side.{Side}
+use Rattle.pairing.specs.declared.Side.the-variants.{A, B}
 use Rattle.journal.specs.declared.Gate.the-variants.{Open}
-use Rattle.journal.specs.declared.Marked.{Marked}
-use Rattle.journal.specs.Answer.{firstOf}
+use Rattle.journal.specs.Answer.{unlessRefused}
 use Rattle.journal.specs.Journal.{markRows}
+use Rattle.halves.specs.View.{View, Leaves, seen}
 use Rattle.halves.specs.Calls.{afterMove}
-use Rattle.join.specs.State.{stateWith, view, stateOf}
-use Rattle.join.proofs.Laws.{own-seen, called-refused, called-accepted}
+use Rattle.join.specs.State.{stateWith}
+use Rattle.join.specs.Calls.{markOn}
+use Rattle.join.proofs.Laws.{seen-moves, at-places, called-on}
+use Rattle.join.proofs.View.{mineIn, othersIn}
 use Rattle.join.proofs.Join.mark_on.Statement.{statement}
 use Rattle.join.proofs.Join.mark_on.Tie as tie
+
+enum-told : tie.Need-enum-told
+enum-told c = search needs
 
 seen-from-requires : tie.Need-seen-from-requires
 seen-from-requires c κs = search needs
 
 mark-requires : tie.Need-mark-requires
-mark-requires c κs = search needs
+mark-requires c κs =
+    let looked = c .before in
+    let st = looked .before .before .before in
+    seen-moves A (stateWith (st .args .self) (st .args .a .now) (st .args .b .now) []) (st .pre .0) (st .pre .1) (st .pre .2) (looked .seen-from .result) (looked .seen-from .ensures)
 
-enum-told : tie.Need-enum-told
-enum-told c = search needs
+of-requires : tie.Need-of-requires
+of-requires c κs = search needs
 
 enum-told-2 : tie.Need-enum-told-2
 enum-told-2 c = search needs
 
+seen-from-requires-2 : tie.Need-seen-from-requires-2
+seen-from-requires-2 c κs = search needs
+
+mark-requires-2 : tie.Need-mark-requires-2
+mark-requires-2 c κs =
+    let looked = c .before in
+    let st = looked .before .before .before in
+    seen-moves B (stateWith (st .args .self) (st .args .a .now) (st .args .b .now) []) (st .pre .0) (st .pre .1) (st .pre .2) (looked .seen-from2 .result) (looked .seen-from2 .ensures)
+
+of-requires-2 : tie.Need-of-requires-2
+of-requires-2 c κs = search needs
+
 returns : tie.Need-returns
 returns c =
-    let asked = c .before .before in
-    let looked = asked .before .before in
-    let st = looked .before in
-    let answered = ap (λ (m : Marked). m .answer) (asked .mark .ensures) in
+    let moved = c .before in
+    let looked = moved .before .before in
+    let told = looked .before in
+    let st = told .before .before in
     λ rows q.
     let s = stateWith (st .args .self) (st .args .a .now) (st .args .b .now) rows in
-    let v = view (st .args .side) s in
-    called-refused s (markRows (st .args .time) (v .own)) (stateOf (st .args .side) (afterMove (Open (st .args .time)) v)) (asked .mark .result .answer)
-    (answered ∙ ap (λ (j : Journal). firstOf (markRows (st .args .time) j)) (own-seen (st .args .side) s (looked .seen-from .result) (looked .seen-from .ensures))) _ (c .enum-told2 .given .1)
-
-move-on-requires : tie.Need-move-on-requires
-move-on-requires c κs = search needs
+    let H = looked .seen-from .result in
+    let r = moved .mark .result in
+    let left = moved .mark .last .1 .0 in
+    called-on A s (st .pre .0) (st .pre .1) q H (looked .seen-from .ensures) (λ (v : View). markRows (st .args .time) (v .own)) (afterMove (Open (st .args .time))) r (c .of .result) (mineIn A s) left rows (c .of .ensures .0) (c .of .ensures .1) (moved .mark .ensures .0)
+    (at-places A s (st .pre .0) (st .pre .1) q H (looked .seen-from .ensures) (λ (mine waits : Rows). Leaves (unlessRefused (r .answer) (afterMove (Open (st .args .time)) (seen H mine (othersIn A s) waits)) (seen H mine (othersIn A s) waits)) (r .halves) mine left waits) (moved .mark .ensures .1))
+    ∙ ap (λ (x : Side). markOn s x (st .args .time)) (sym (told .enum-told .given .1))
 
 returns-2 : tie.Need-returns-2
 returns-2 c =
-    let told = c .before .before .before in
-    let asked = told .before .before in
-    let looked = asked .before .before in
-    let st = looked .before in
-    let answered = ap (λ (m : Marked). m .answer) (asked .mark .ensures) in
+    let moved = c .before in
+    let looked = moved .before .before in
+    let told = looked .before in
+    let st = told .before .before in
     λ rows q.
     let s = stateWith (st .args .self) (st .args .a .now) (st .args .b .now) rows in
-    let v = view (st .args .side) s in
-    called-accepted s (markRows (st .args .time) (v .own)) (stateOf (st .args .side) (afterMove (Open (st .args .time)) v)) (asked .mark .result .answer)
-    (answered ∙ ap (λ (j : Journal). firstOf (markRows (st .args .time) j)) (own-seen (st .args .side) s (looked .seen-from .result) (looked .seen-from .ensures))) _ (told .enum-told .given .1) (c .move-on .ensures rows q)
+    let H = looked .seen-from2 .result in
+    let r = moved .mark2 .result in
+    let left = moved .mark2 .last .1 .0 in
+    called-on B s (st .pre .0) (st .pre .1) q H (looked .seen-from2 .ensures) (λ (v : View). markRows (st .args .time) (v .own)) (afterMove (Open (st .args .time))) r (c .of2 .result) (mineIn B s) left rows (c .of2 .ensures .0) (c .of2 .ensures .1) (moved .mark2 .ensures .0)
+    (at-places B s (st .pre .0) (st .pre .1) q H (looked .seen-from2 .ensures) (λ (mine waits : Rows). Leaves (unlessRefused (r .answer) (afterMove (Open (st .args .time)) (seen H mine (othersIn B s) waits)) (seen H mine (othersIn B s) waits)) (r .halves) mine left waits) (moved .mark2 .ensures .1))
+    ∙ ap (λ (x : Side). markOn s x (st .args .time)) (sym (told .enum-told2 .given .1))
 
 pub mark-on-spec : {M : Type 1} → statement M
 mark-on-spec =
     tie.close
     (tie.spec
+    enum-told
     seen-from-requires
     mark-requires
-    enum-told
+    of-requires
     enum-told-2
+    seen-from-requires-2
+    mark-requires-2
+    of-requires-2
     returns
-    move-on-requires
     returns-2)
