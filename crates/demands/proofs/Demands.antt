@@ -168,10 +168,9 @@ module _ (rule : Rule) (w : World) (g : GoodWorld rule w) where
     )
 
     whole : Whole rule w later
+    unfolding view
     whole closed empty =
-        let gates = and-left (isClosed (w .state .join .a .journal .gate)) (isClosed (w .state .join .b .journal .gate)) closed in
-        let gates′ = and-right (isClosed (w .state .join .a .journal .gate)) (isClosed (w .state .join .b .journal .gate)) closed in
-        emptied empty ∙ ap₂ (λ (a b : List Entry). plain rule a b) (sym (no-more .0 gates)) (sym (no-more .1 gates′))
+        emptied empty ∙ ap₂ (λ (a b : List Entry). plain rule a b) (sym (no-more .0 (closed-side A (w .state) closed))) (sym (no-more .1 (closed-side B (w .state) closed)))
 
     finished-whole : FinishedWhole rule w later
     finished-whole h = let f = finished (w .state) h in whole (f .0) (f .1)
