@@ -44,7 +44,7 @@ module _ (s : State) (h : Sound s) (found : Record) (known : streamKnown found �
       let below = ltb-true stream 2 (rw is at known) in
       let own = sideOf stream in
       ap (λ (x : Side). closeOn s x) at
-      ∙ judged-sound s stream (closeRows (view own s)) (stateOf own (afterMove Closed (view own s))) (h .judged) (omega arith)
+      ∙ judged-sound s stream (closeRows (view own s .own)) (stateOf own (afterMove Closed (view own s))) (h .judged) (omega arith)
       ∙ sym (ap (heard s) is)
 
 -- a sound state stays sound, and a refusal leaves it as it stood

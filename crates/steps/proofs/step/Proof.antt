@@ -11,7 +11,7 @@ use Rattle.journal.specs.declared.Answer.{Answer}
 use Rattle.journal.specs.declared.Answer.the-variants.{Accepted, Refused}
 use Rattle.join.specs.State.{Sound, stateWith}
 use Rattle.join.specs.Calls.{Outcome, outcome}
-use Rattle.join.proofs.Laws.{stand-a}
+use Rattle.join.proofs.Laws.{sound-order}
 use Rattle.feed.specs.declared.Reading.{Reading}
 use Rattle.feed.specs.declared.Reading.the-variants.{Found, Refused as refusedReading, End}
 use Rattle.feed.proofs.Reading.{the-type as reading-type}
@@ -127,7 +127,7 @@ hand-out-requires c κs =
     let h = c .before .before .before .before .hear in
     let after = stateWith (h .result .join) (h .last .1 .0) (h .last .1 .1 .0) (h .last .1 .1 .1 .0) in
     let kept : Sound after = subst (λ (o : Outcome Answer). Sound (o .state)) (sym (h .ensures)) (heard-kept _ (run .sound) (c .before .before .before .before .before .before .before .before .before .reading .given .0 .0)) in
-    (kept .holdsQueue, stand-a after kept .in-order, omega arith, (omega (arith, run .few-records), run .few-pairs))
+    (kept .holdsQueue, sound-order after kept, omega arith, (omega (arith, run .few-records), run .few-pairs))
 
 same-length-3 : tie.Need-same-length-3
 same-length-3 c = search needs
