@@ -19,8 +19,6 @@ use Rattle.join.specs.State.{stateWith}
 use Rattle.join.specs.Calls.{Outcome, outcome}
 use Rattle.join.proofs.side_of.Reads as side-of
 use Rattle.join.proofs.Join.fresh.Reads as fresh
-use Rattle.join.proofs.Join.seen_from.Reads as seen-from
-use Rattle.join.proofs.Join.of.Reads as of
 use Rattle.join.proofs.Join.both_closed.Reads as both-closed
 use Rattle.join.proofs.Join.sound.Reads as sound
 use Rattle.join.proofs.Join.entry.Reads as entry
@@ -39,12 +37,6 @@ one-side-of = one-by-equation _ _
 
 one-fresh : OneResult fresh.Post
 one-fresh = one-by-equation _ _
-
-one-seen-from : OneResult seen-from.Post
-one-seen-from = one-by-equation _ _
-
-one-of : OneResult of.Post
-one-of = one-by-equation _ _
 
 one-both-closed : OneResult both-closed.Post
 one-both-closed = one-by-equation _ _

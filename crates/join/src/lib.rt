@@ -78,7 +78,7 @@ impl Join {
     }
 
     // The join as a side sees it: its own half first.
-    pub fn seen_from(self, side: Side) -> Halves
+    fn seen_from(self, side: Side) -> Halves
         ensures { λ r. ⌜ r ≡ seenFrom side self ⌝ }
     {
         let rule = self.rule;
@@ -102,7 +102,7 @@ impl Join {
     }
 
     // The join that a side sees so.
-    pub fn of(side: Side, halves: Halves) -> Join
+    fn of(side: Side, halves: Halves) -> Join
         ensures { λ r. ⌜ r ≡ joinOf side halves ⌝ }
     {
         let rule = halves.rule;
