@@ -13,9 +13,8 @@ use Rattle.lists.specs.Judge.{allOf, chain}
 use Rattle.lists.specs.Keep.{keep}
 use Rattle.lists.specs.Store.{Rows, isBlank}
 use Rattle.lists.proofs.Array.{Shaped}
-use Rattle.lists.proofs.Bools.{and-left, and-right}
 use Rattle.lists.proofs.InPlace.{padded-part}
-use Rattle.lists.proofs.Judge.{allOf-map, chain-map}
+use Rattle.lists.proofs.Judge.{Passes, passes, allOf-map, chain-map}
 use Rattle.lists.proofs.Store.{content-long, stores-length, stores-rest, stores-keep, row-listed, stores-judged}
 use Rattle.pairing.specs.declared.Numbered.{Numbered}
 use Rattle.pairing.specs.declared.Rule.{Rule}
@@ -50,18 +49,17 @@ unfolding soundArea
 sound-rows rule own other area rows =
     rw (allOf-map heldIn (soundEntry rule own other) (take (area .count) rows), chain-map heldIn follows (take (area .count) rows))
 
--- the places of a sound area store what it holds
-pub sound-holds : (rule : Rule) (own : Journal) (other : Gate) (area : Area) (rows : Rows) → Shaped places width rows → soundArea rule own other area rows ≡ true → Holds area rows
+-- what a sound area has
+pub area-passes : (rule : Rule) (own : Journal) (other : Gate) (area : Area) (rows : Rows) → soundArea rule own other area rows ≡ true
+    → Passes (leb (area .count) most) (allOf (soundEntry rule own other) (held area rows)) (chain follows (held area rows)) (allOf isBlank (drop (area .count) rows))
 unfolding soundArea
-sound-holds rule own other area rows shaped e =
-    let rest = and-right (leb (area .count) most) _ e in
-    let spare = and-right (chain follows (held area rows)) _ (and-right (allOf (soundEntry rule own other) (held area rows)) _ rest) in
-    stores-judged heldIn rowOf places width row-held (area .count) rows shaped (omega (arith, most-fits, leb-true (area .count) most (and-left _ _ e))) spare
+area-passes rule own other area rows e = passes _ _ _ _ e
 
--- and follow one another
-pub sound-follows : (rule : Rule) (own : Journal) (other : Gate) (area : Area) (rows : Rows) → soundArea rule own other area rows ≡ true → chain follows (held area rows) ≡ true
-unfolding soundArea
-sound-follows rule own other area rows e = and-left _ _ (and-right (allOf (soundEntry rule own other) (held area rows)) _ (and-right (leb (area .count) most) _ e))
+-- its places store what it holds
+pub sound-holds : (rule : Rule) (own : Journal) (other : Gate) (area : Area) (rows : Rows) → Shaped places width rows → soundArea rule own other area rows ≡ true → Holds area rows
+sound-holds rule own other area rows shaped e =
+    let all = area-passes rule own other area rows e in
+    stores-judged heldIn rowOf places width row-held (area .count) rows shaped (omega (arith, most-fits, leb-true (area .count) most (all .few-pass))) (all .spare-pass)
 
 -- what an area holds is as long as its count
 pub held-long : (area : Area) (rows : Rows) → area .count ≤ places → length rows ≡ places → length (held area rows) ≡ area .count

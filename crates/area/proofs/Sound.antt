@@ -4,11 +4,10 @@ use native.Mathlib.Omega.{arith}
 use mathlib.Core.Bool.{Bool, true, false, cond}
 use mathlib.Core.List.{List, [], _∷_, _++_, append-nil}
 use mathlib.Core.Path.{_≡_, refl, ap}
-use lib.Dec.{ltb, leb}
+use lib.Dec.{ltb}
 use lib.ListN.{length, length-append}
 use borrow.Author.Tests.{ltb-true, leb-true, lt-ltb, le-leb}
 use Rattle.interval.specs.Interval.{properOf}
-use Rattle.lists.specs.Judge.{allOf, chain}
 use Rattle.lists.specs.Store.{Rows}
 use Rattle.lists.proofs.All.{All, Each, all-map, all-map₂, all-append, each-map, each-append}
 use Rattle.lists.proofs.Bools.{and-left, and-right}
@@ -26,7 +25,7 @@ use Rattle.journal.specs.Journal.{wanted, notPast, moved, entered}
 use Rattle.journal.proofs.Onward.{Onward, notPast-onward}
 use Rattle.area.specs.declared.Area.{Area}
 use Rattle.area.specs.Area.{heldIn, width, rowOf, most, places, held, areaOf, rowsOf, Holds, wantedBy, soundEntry, follows, soundArea}
-use Rattle.area.proofs.Laws.{most-fits, held-row}
+use Rattle.area.proofs.Laws.{most-fits, held-row, area-passes}
 
 -- ---- the area that stores some entries
 
@@ -90,15 +89,13 @@ module _ (rule : Rule) (own : Journal) (other : Gate) where
 
   -- what the judge passes
   pub judged-held : (area : Area) (rows : Rows) → Holds area rows → soundArea rule own other area rows ≡ true → SoundHeld rule own other (held area rows)
-  unfolding soundArea
   judged-held area rows h e =
       let xs = held area rows in
-      let e1 = and-right (leb (area .count) most) _ e in
-      let e2 = and-right (allOf (soundEntry rule own other) xs) _ e1 in
+      let all = area-passes rule own other area rows e in
       record {
-        few = omega (arith, held-length area rows h, leb-true (area .count) most (and-left (leb (area .count) most) _ e));
-        sounds = all-map (λ (x : Numbered). soundEntry rule own other x ≡ true) (SoundEntry rule own other) entry-facts xs (allOf-all (soundEntry rule own other) xs (and-left (allOf (soundEntry rule own other) xs) _ e1));
-        laters = each-map (λ (x y : Numbered). follows x y ≡ true) Later follows-later xs (chain-each follows follows-trans xs (and-left (chain follows xs) _ e2));
+        few = omega (arith, held-length area rows h, leb-true (area .count) most (all .few-pass));
+        sounds = all-map (λ (x : Numbered). soundEntry rule own other x ≡ true) (SoundEntry rule own other) entry-facts xs (allOf-all (soundEntry rule own other) xs (all .sounds-pass));
+        laters = each-map (λ (x y : Numbered). follows x y ≡ true) Later follows-later xs (chain-each follows follows-trans xs (all .order-pass));
       }
 
   -- passes the judge

@@ -48,11 +48,11 @@ one-enter κs args x y left other p q =
 
 -- A moved gate is told of its own area and of the queue only how much they hold: it leaves what it leaves for any places that hold so many, and there are such.
 spare-area : (a : Area) → a .count ≤ area.places → area.Holds a (area.rowsOf (replicate (a .count) (area.heldIn [])))
-spare-area a few = stores-stored area.heldIn area.rowOf area.places 5 held-row (replicate (a .count) (area.heldIn [])) (a .count) (length-replicate (a .count) (area.heldIn [])) few
+spare-area a few = stores-stored area.heldIn area.rowOf area.places area.width held-row (replicate (a .count) (area.heldIn [])) (a .count) (length-replicate (a .count) (area.heldIn [])) few
 
 pub spare-queue : (waiting : Queue) → waiting .count ≤ queue.places → queue.Holds waiting (queue.rowsOf (replicate (waiting .count) (pairIn [])))
 spare-queue waiting few =
-    stores-stored pairIn pairNumbers queue.places 8 pair-numbers (replicate (waiting .count) (pairIn [])) (waiting .count) (length-replicate (waiting .count) (pairIn [])) few
+    stores-stored pairIn pairNumbers queue.places queue.width pair-numbers (replicate (waiting .count) (pairIn [])) (waiting .count) (length-replicate (waiting .count) (pairIn [])) few
 
 one-shift : OneOutcome {Seen = Halves × Rows} (λ κs r left. (r, now (left .1 .0))) (λ κs args r left. shift.Pre κs args × shift.Post κs args r left)
 one-shift κs args x y left other p q =

@@ -40,7 +40,7 @@ use Rattle.join.proofs.View.{mineIn, othersIn, stateFrom, seen-view, st
 module _ (s : State) (ok : Sound s) where
   -- the waiting pairs of a sound state are in order
   pub sound-order : chain comesBefore (queue.waiting (s .join .queue) (s .rows)) ≡ true
-  sound-order = queue-laws.sound-in-order (s .join .a .journal .accepted) (s .join .b .journal .accepted) (s .join .queue) (s .rows) (sound-parts s (ok .judged) .waits)
+  sound-order = queue-laws.queue-passes (s .join .a .journal .accepted) (s .join .b .journal .accepted) (s .join .queue) (s .rows) (sound-parts s (ok .judged) .waits) .order-pass
 
   -- a sound state stands, seen from either side
   stand : (side : Side) → Stand (seenFrom side (s .join)) (mineIn side s) (othersIn side s) (s .rows)
@@ -48,14 +48,14 @@ module _ (s : State) (ok : Sound s) where
     holds-mine = ok .holdsA;
     holds-others = ok .holdsB;
     holds-rows = ok .holdsQueue;
-    others-follow = area-laws.sound-follows (s .join .rule) (s .join .b .journal) (s .join .a .journal .gate) (s .join .b .area) (s .inB) (sound-parts s (ok .judged) .areaB);
+    others-follow = area-laws.area-passes (s .join .rule) (s .join .b .journal) (s .join .a .journal .gate) (s .join .b .area) (s .inB) (sound-parts s (ok .judged) .areaB) .order-pass;
     in-order = sound-order;
   }
   stand B = record {
     holds-mine = ok .holdsB;
     holds-others = ok .holdsA;
     holds-rows = ok .holdsQueue;
-    others-follow = area-laws.sound-follows (s .join .rule) (s .join .a .journal) (s .join .b .journal .gate) (s .join .a .area) (s .inA) (sound-parts s (ok .judged) .areaA);
+    others-follow = area-laws.area-passes (s .join .rule) (s .join .a .journal) (s .join .b .journal .gate) (s .join .a .area) (s .inA) (sound-parts s (ok .judged) .areaA) .order-pass;
     in-order = sound-order;
   }
 
@@ -134,7 +134,7 @@ module _ (s : State) (h : queue.Holds (s .join .queue) (s .rows)) where
   none-waits e = rw e
 
   pub one-waits : 0 < s .join .queue .count → waitingIn s ≡ getD (waitingIn s) 0 (pairIn []) ∷ drop 1 (waitingIn s)
-  one-waits few = drop-cons (waitingIn s) 0 (pairIn []) (omega (arith, content-length pairIn pairNumbers queue.places 8 (s .join .queue .count) (s .rows) h))
+  one-waits few = drop-cons (waitingIn s) 0 (pairIn []) (omega (arith, content-length pairIn pairNumbers queue.places queue.width (s .join .queue .count) (s .rows) h))
 
 pub take-none : (s : State) (closed : Bool) → closed ≡ bothClosed (s .join) → waitingIn s ≡ [] → outcome (cond closed Finished Waiting) s ≡ takeOn s
 take-none s closed e f = rw (f, ← e) (go closed)

@@ -134,3 +134,17 @@ module _ {A B : Type 0} (f : A → B) where
   pub chain-map : (r : B → B → Bool) (xs : List A) → chain r (map f xs) ≡ chain (λ (x y : A). r (f x) (f y)) xs
   chain-map r [] = refl
   chain-map r (x ∷ xs) = chainFrom-map r x xs
+
+-- ---- places that are judged: the count, what they hold, its order, and the spare ones
+
+pub record Passes (few sounds order spare : Bool) : Type 0 where
+  pub few-pass : few ≡ true
+  pub sounds-pass : sounds ≡ true
+  pub order-pass : order ≡ true
+  pub spare-pass : spare ≡ true
+
+pub passes : (few sounds order spare : Bool) → few && (sounds && (order && spare)) ≡ true → Passes few sounds order spare
+passes few sounds order spare e =
+    let e1 = and-right few _ e in
+    let e2 = and-right sounds _ e1 in
+    record { few-pass = and-left few _ e; sounds-pass = and-left sounds _ e1; order-pass = and-left order _ e2; spare-pass = and-right order _ e2 }

@@ -15,10 +15,9 @@ use Rattle.lists.specs.Sort.{insertBy, insertAllBy}
 use Rattle.lists.specs.Store.{padTo, Rows, isBlank}
 use Rattle.lists.proofs.All.{All, each-map, each-mapped}
 use Rattle.lists.proofs.Array.{Shaped}
-use Rattle.lists.proofs.Bools.{and-left, and-right}
 use Rattle.lists.proofs.First.{Down, fails-on, keep-first}
 use Rattle.lists.proofs.InPlace.{moved-padded, padded-over}
-use Rattle.lists.proofs.Judge.{allOf-all, allOf-map, chain-map, chain-each}
+use Rattle.lists.proofs.Judge.{Passes, passes, allOf-all, allOf-map, chain-map, chain-each}
 use Rattle.lists.proofs.Order.{StrictOrder, Ascending}
 use Rattle.lists.proofs.Sort.{insertAllBy-length}
 use Rattle.lists.proofs.Store.{content-at, stores-length, stores-rows, stores-rest, content-length, stores-judged}
@@ -79,18 +78,17 @@ unfolding soundQueue
 sound-rows ofA ofB queue rows =
     rw (allOf-map pairIn (soundPair ofA ofB) (take (queue .count) rows), chain-map pairIn comesBefore (take (queue .count) rows))
 
--- the places of a sound queue store the waiting pairs
-pub sound-holds : (ofA ofB : ℕ) (queue : Queue) (rows : Rows) → Shaped places width rows → soundQueue ofA ofB queue rows ≡ true → Holds queue rows
+-- what a sound queue has
+pub queue-passes : (ofA ofB : ℕ) (queue : Queue) (rows : Rows) → soundQueue ofA ofB queue rows ≡ true
+    → Passes (leb (queue .count) places) (allOf (soundPair ofA ofB) (waiting queue rows)) (chain comesBefore (waiting queue rows)) (allOf isBlank (drop (queue .count) rows))
 unfolding soundQueue
-sound-holds ofA ofB queue rows shaped e =
-    let rest = and-right (leb (queue .count) places) _ e in
-    let spare = and-right (chain comesBefore (waiting queue rows)) _ (and-right (allOf (soundPair ofA ofB) (waiting queue rows)) _ rest) in
-    stores-judged pairIn pairNumbers places width numbers-pair (queue .count) rows shaped (leb-true (queue .count) places (and-left _ _ e)) spare
+queue-passes ofA ofB queue rows e = passes _ _ _ _ e
 
--- which are in order
-pub sound-in-order : (ofA ofB : ℕ) (queue : Queue) (rows : Rows) → soundQueue ofA ofB queue rows ≡ true → chain comesBefore (waiting queue rows) ≡ true
-unfolding soundQueue
-sound-in-order ofA ofB queue rows e = and-left _ _ (and-right (allOf (soundPair ofA ofB) (waiting queue rows)) _ (and-right (leb (queue .count) places) _ e))
+-- its places store the waiting pairs
+pub sound-holds : (ofA ofB : ℕ) (queue : Queue) (rows : Rows) → Shaped places width rows → soundQueue ofA ofB queue rows ≡ true → Holds queue rows
+sound-holds ofA ofB queue rows shaped e =
+    let all = queue-passes ofA ofB queue rows e in
+    stores-judged pairIn pairNumbers places width numbers-pair (queue .count) rows shaped (leb-true (queue .count) places (all .few-pass)) (all .spare-pass)
 
 -- a pair before a ready one is ready
 ready-down : (a b : Gate) (p q : Pair) → comesBefore p q ≡ true → Down (ready a b) p q

@@ -1,6 +1,6 @@
 -- What is ready: the laws of what is due, of pairs by their start.
 use Prim.Native.Nat.{ℕ, _≤_}
-use mathlib.Core.Bool.{true, false, not}
+use mathlib.Core.Bool.{true, false}
 use mathlib.Core.List.{List, _∷_, _++_}
 use mathlib.Core.Path.{_≡_}
 use Rattle.lists.specs.Keep.{keep}
@@ -10,7 +10,7 @@ use Rattle.pairing.specs.Pair.{comesBefore}
 use Rattle.pairing.proofs.Pairs.{before-start}
 use Rattle.journal.specs.declared.Gate.{Gate}
 use Rattle.journal.specs.declared.Gate.the-variants.{Open}
-use Rattle.journal.proofs.Due.{keep-due-comm, due-ahead, due-split, due-head, due-grows}
+use Rattle.journal.proofs.Due.{keep-due-comm, due-ahead, due-head, due-grows}
 use Rattle.journal.proofs.Onward.{Onward}
 use Rattle.queue.specs.Queue.{ready}
 
@@ -25,10 +25,6 @@ keep-ready-comm = keep-due-comm start
 pub ready-ahead : (a b : Gate) (time : ℕ) → Onward a (Open time) → (p : Pair) → time ≤ p .meeting .start → ready a b p ≡ false
 unfolding ready
 ready-ahead = due-ahead start
-
-pub ready-split : (a b : Gate) (ps : List Pair) → Ascending comesBefore ps → ps ≡ keep (ready a b) ps ++ keep (λ (p : Pair). not (ready a b p)) ps
-unfolding ready
-ready-split = due-split start comesBefore before-start
 
 pub ready-head : (a b : Gate) (q : Pair) (qs : List Pair) → Ascending comesBefore (q ∷ qs) → (p : Pair) (ps : List Pair) → keep (ready a b) (q ∷ qs) ≡ p ∷ ps → ready a b q ≡ true
 unfolding ready

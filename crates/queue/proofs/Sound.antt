@@ -5,11 +5,10 @@ use mathlib.Core.Bool.{true}
 use mathlib.Core.List.{List, []}
 use mathlib.Core.Logic.{inl}
 use mathlib.Core.Path.{_≡_, refl, ap, _∙_}
-use lib.Dec.{ltb, leb}
+use lib.Dec.{ltb}
 use lib.ListN.{length, drop, length-drop}
 use borrow.Author.Tests.{ltb-true, lt-ltb, le-leb}
 use Rattle.interval.specs.Interval.{properOf}
-use Rattle.lists.specs.Judge.{allOf, chain}
 use Rattle.lists.specs.Sort.{insertAllBy}
 use Rattle.lists.specs.Store.{Rows}
 use Rattle.lists.proofs.All.{All, Each, all-map, all-drop, each-map, each-drop}
@@ -31,6 +30,7 @@ use Rattle.pairing.proofs.Arrival.{Later, newPairs-ascending, ownIn, otherIn, a
 use Rattle.pairing.proofs.Pairs.{strict-comesBefore}
 use Rattle.queue.specs.declared.Queue.{Queue}
 use Rattle.queue.specs.Queue.{places, width, waiting, queueOf, rowsOf, Holds, soundPair, soundQueue}
+use Rattle.queue.proofs.Laws.{queue-passes}
 
 -- ---- the queue that stores some pairs
 
@@ -92,15 +92,13 @@ module _ (ofA ofB : ℕ) where
 
   -- what the judge passes
   pub judged-waiting : (queue : Queue) (rows : Rows) → Holds queue rows → soundQueue ofA ofB queue rows ≡ true → SoundWaiting A ofA ofB (waiting queue rows)
-  unfolding soundQueue
   judged-waiting queue rows h e =
       let ps = waiting queue rows in
-      let e1 = and-right (leb (queue .count) places) _ e in
-      let e2 = and-right (allOf (soundPair ofA ofB) ps) _ e1 in
+      let all = queue-passes ofA ofB queue rows e in
       record {
         few = omega (arith, waiting-length queue rows h, h .few);
-        sounds = all-map (λ (p : Pair). soundPair ofA ofB p ≡ true) (SoundPair A ofA ofB) pair-facts ps (allOf-all (soundPair ofA ofB) ps (and-left (allOf (soundPair ofA ofB) ps) _ e1));
-        ascends = chain-each comesBefore (strict-comesBefore .trans) ps (and-left (chain comesBefore ps) _ e2);
+        sounds = all-map (λ (p : Pair). soundPair ofA ofB p ≡ true) (SoundPair A ofA ofB) pair-facts ps (allOf-all (soundPair ofA ofB) ps (all .sounds-pass));
+        ascends = chain-each comesBefore (strict-comesBefore .trans) ps (all .order-pass);
       }
 
   -- passes the judge

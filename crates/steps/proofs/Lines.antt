@@ -50,7 +50,7 @@ lines-of (suc k) (p ∷ ps) = ap (λ (l : List ℕ). pairLine p ++ l) (lines-of 
 module _ (waiting : Queue) (rows : Rows) (h : queue.Holds waiting rows) (k : ℕ) (few : k ≤ waiting .count) where
   pub waiting-lines : flatMap line (take k rows) ≡ pairLines (take k (queue.waiting waiting rows))
   waiting-lines =
-      ap (flatMap line) (sym (take-take k (waiting .count) rows few) ∙ ap (take k) (stores-rows pairIn pairNumbers queue.places 8 (waiting .count) rows h))
+      ap (flatMap line) (sym (take-take k (waiting .count) rows few) ∙ ap (take k) (stores-rows pairIn pairNumbers queue.places queue.width (waiting .count) rows h))
       ∙ lines-of k (queue.waiting waiting rows)
 
 -- ---- a last line

@@ -34,7 +34,7 @@ kept-begun rule limit few = record { sound = sound-fresh rule; few-records = ome
 -- no more are ready than wait
 pub ready-count : (s : State) → queue.Holds (s .join .queue) (s .rows) → (length (readyOf s) ≤ s .join .queue .count) × (s .join .queue .count ≤ queue.places)
 ready-count s h =
-    let waits : length (waitingIn s) ≡ s .join .queue .count = content-length pairIn pairNumbers queue.places 8 (s .join .queue .count) (s .rows) h in
+    let waits : length (waitingIn s) ≡ s .join .queue .count = content-length pairIn pairNumbers queue.places queue.width (s .join .queue .count) (s .rows) h in
     (omega (arith, keep-length (readyIn s) (waitingIn s)), h .few)
 
 -- a drop of as many as are ready, and counts that have them and one record more

@@ -4,7 +4,7 @@ use native.Mathlib.Omega.{arith}
 use mathlib.Core.List.{append-nil}
 use mathlib.Core.Path.{sym, _∙_}
 use Rattle.lists.proofs.Store.{content-length}
-use Rattle.area.specs.Area.{heldIn, rowOf, places, held}
+use Rattle.area.specs.Area.{heldIn, rowOf, places, held, width}
 use Rattle.area.proofs.Laws.{most-fits}
 use Rattle.halves.proofs.hold_wanted.Statement.{statement}
 use Rattle.halves.proofs.hold_wanted.Tie as tie
@@ -28,7 +28,7 @@ returns-2 c =
     let st = c .before .before in
     let no = sym (c .before .wants .ensures) ∙ c .if1 .left in
     let all = append-nil (held (st .args .area) (st .args .rows .now)) in
-    let n = sym (content-length heldIn rowOf places 5 (st .args .area .count) (st .args .rows .now) (st .pre .0)) in
+    let n = sym (content-length heldIn rowOf places width (st .args .area .count) (st .args .rows .now) (st .pre .0)) in
     (rw (no, all) (λ i. record { count = n i }), rw (no, all) (st .pre .0 .same))
 
 pub hold-wanted-spec : {M : Type 1} → statement M
