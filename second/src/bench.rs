@@ -1,8 +1,9 @@
-//! The twelve bench examples of document 01, on the join.
+//! The twelve bench examples of document 01, on the join, the eleventh with what
+//! P2 of document 02 adds to it.
 
 use crate::refusal::Refusal;
 use crate::rules::Stream::{A, B};
-use crate::rules::{Entry, Join, Pair, Rule, Stream, Take};
+use crate::rules::{Entry, Join, Pair, Rule, Stream, Take, ACCEPTED_LIMIT};
 
 /// Key 1 unless said.
 fn entry(start: u32, end: u32) -> Entry {
@@ -14,6 +15,14 @@ fn entry(start: u32, end: u32) -> Entry {
     }
 }
 
+/// Key 36,000, the first off the circle.
+fn off(start: u32, end: u32) -> Entry {
+    Entry {
+        key: 36_000,
+        ..entry(start, end)
+    }
+}
+
 /// Fresh join, equal keys unless said.
 fn fresh() -> Join {
     Join::fresh(Rule::Equal)
@@ -21,7 +30,11 @@ fn fresh() -> Join {
 
 /// A join that accepted these entries.
 fn joined(entries: &[(Stream, u32, u32)]) -> Join {
-    let mut join = fresh();
+    joined_by(Rule::Equal, entries)
+}
+
+fn joined_by(rule: Rule, entries: &[(Stream, u32, u32)]) -> Join {
+    let mut join = Join::fresh(rule);
     for (stream, start, end) in entries {
         assert_eq!(join.entry(*stream, entry(*start, *end)), Ok(()));
     }
@@ -137,20 +150,53 @@ fn keys_pair(rule: Rule, a_key: u32, b_key: u32) -> bool {
 fn example_11_near_keys() {
     assert!(keys_pair(Rule::Near(2), 5, 7));
     assert!(!keys_pair(Rule::Near(2), 5, 8));
+    assert!(keys_pair(Rule::Near(2), 35_999, 1));
+    assert!(!keys_pair(Rule::Near(2), 35_999, 2));
     // Whichever of the two is the larger.
     assert!(keys_pair(Rule::Near(2), 7, 5));
     assert!(!keys_pair(Rule::Near(2), 8, 5));
+    assert!(keys_pair(Rule::Near(2), 1, 35_999));
+    assert!(!keys_pair(Rule::Near(2), 2, 35_999));
 }
 
 #[test]
 fn the_rules_at_the_ends_of_the_keys() {
     assert!(keys_pair(Rule::Near(0), 5, 5));
     assert!(!keys_pair(Rule::Near(0), 5, 6));
-    assert!(keys_pair(Rule::Near(2), u32::MAX - 2, u32::MAX));
-    assert!(!keys_pair(Rule::Near(2), u32::MAX, 1));
-    assert!(keys_pair(Rule::Near(u32::MAX), 0, u32::MAX));
-    assert!(!keys_pair(Rule::Near(u32::MAX - 1), 0, u32::MAX));
+    assert!(keys_pair(Rule::Near(1), 35_999, 0));
+    assert!(!keys_pair(Rule::Near(0), 35_999, 0));
+    assert!(keys_pair(Rule::Near(u32::MAX), 0, 18_000));
     assert!(keys_pair(Rule::Every, 0, u32::MAX));
+}
+
+#[test]
+fn half_a_turn_is_as_far_either_way_round() {
+    for (a_key, b_key) in [(0, 18_000), (18_000, 0), (17_999, 35_999), (35_999, 17_999)] {
+        assert!(keys_pair(Rule::Near(18_000), a_key, b_key));
+        assert!(!keys_pair(Rule::Near(17_999), a_key, b_key));
+    }
+    // One more the one way is one less the other.
+    for key in [17_999, 18_001] {
+        assert!(keys_pair(Rule::Near(17_999), 0, key));
+        assert!(!keys_pair(Rule::Near(17_998), 0, key));
+    }
+}
+
+#[test]
+fn a_key_off_the_circle_is_refused_under_near_alone() {
+    for key in [36_000, 36_001, u32::MAX] {
+        let keyed = Entry { key, ..entry(0, 9) };
+        for stream in [A, B] {
+            let mut join = joined_by(Rule::Near(u32::MAX), &[(A, 0, 9), (B, 0, 9)]);
+            assert_eq!(refused(&mut join, |join| join.entry(stream, keyed)), 13);
+        }
+        // Outside a join it pairs with nothing.
+        assert!(!Rule::Near(u32::MAX).holds(key, key));
+        assert!(!Rule::Near(u32::MAX).holds(0, key));
+        assert!(!Rule::Near(u32::MAX).holds(key, 0));
+        assert!(keys_pair(Rule::Equal, key, key));
+        assert!(keys_pair(Rule::Every, key, key));
+    }
 }
 
 #[test]
@@ -220,4 +266,36 @@ fn the_first_refusal_of_the_table_is_given() {
     // 2 before 3
     assert_eq!(join.close(A), Ok(()));
     assert_eq!(refused(&mut join, |join| join.entry(A, entry(4, 4))), 2);
+}
+
+#[test]
+fn refusal_13_comes_before_6_and_7_and_after_2_3_and_4() {
+    let mut join = joined_by(Rule::Near(2), &[(A, 5, 100); 64]);
+    for _ in 0..4 {
+        assert_eq!(join.entry(B, entry(0, 100)), Ok(()));
+    }
+    // 13 before 6
+    assert_eq!(refused(&mut join, |join| join.entry(A, entry(5, 100))), 6);
+    assert_eq!(refused(&mut join, |join| join.entry(A, off(5, 100))), 13);
+    // 13 before 7
+    assert_eq!(refused(&mut join, |join| join.entry(B, entry(0, 100))), 7);
+    assert_eq!(refused(&mut join, |join| join.entry(B, off(0, 100))), 13);
+    // 4 before 13, 3 and 2 too
+    assert_eq!(refused(&mut join, |join| join.entry(A, off(4, 100))), 4);
+    assert_eq!(refused(&mut join, |join| join.entry(A, off(5, 5))), 3);
+    assert_eq!(join.close(A), Ok(()));
+    assert_eq!(refused(&mut join, |join| join.entry(A, off(5, 100))), 2);
+}
+
+#[test]
+fn refusal_13_comes_after_5() {
+    let mut join = Join::fresh(Rule::Near(2));
+    // With B closed no A entry is wanted, so none is held.
+    assert_eq!(join.close(B), Ok(()));
+    for _ in 1..ACCEPTED_LIMIT {
+        assert_eq!(join.entry(A, entry(0, 9)), Ok(()));
+    }
+    assert_eq!(refused(&mut join, |join| join.entry(A, off(0, 9))), 13);
+    assert_eq!(join.entry(A, entry(0, 9)), Ok(()));
+    assert_eq!(refused(&mut join, |join| join.entry(A, off(0, 9))), 5);
 }

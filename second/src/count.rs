@@ -7,7 +7,7 @@ use crate::rules::{Rule, Stream, HELD_LIMIT, WAITING_LIMIT};
 use std::collections::BTreeMap;
 
 /// The last lines that a made feed can get, without their counts.
-pub const LAST_LINES: [&str; 11] = [
+pub const LAST_LINES: [&str; 12] = [
     "done",
     "open",
     "refused 1",
@@ -19,6 +19,7 @@ pub const LAST_LINES: [&str; 11] = [
     "refused 9",
     "refused 10",
     "refused 11",
+    "refused 13",
 ];
 
 /// The counts of some feeds.
@@ -145,7 +146,8 @@ mod tests {
     use crate::bundle::bundle_of;
     use crate::make::KINDS;
     use crate::records::{reading, Reading, Record};
-    use crate::rules::Join;
+    use crate::rules::{distance, Entry, Join, Take, TURN};
+    use std::collections::BTreeSet;
 
     /// How many of the counted feeds get a last line.
     fn with_line(counts: &Counts, line: &str) -> usize {
@@ -189,7 +191,12 @@ mod tests {
             );
             for line in LAST_LINES {
                 let count = with_line(counts, line);
-                assert!(count >= 5, "{rule}, {line}: {count}");
+                let is_right = match (line, rule) {
+                    ("refused 13", "near") => count >= 40,
+                    ("refused 13", _) => count == 0,
+                    _ => count >= 5,
+                };
+                assert!(is_right, "{rule}, {line}: {count}");
             }
             // Most feeds are joined to their end.
             let whole = with_line(counts, "done") + with_line(counts, "open");
@@ -226,31 +233,80 @@ mod tests {
         assert!(count_of("waiting freed and filled", "refused 7") >= 10);
         assert!(count_of("wrong length", "refused 10") >= 80);
         assert!(count_of("the example cut", "refused 9") >= 90);
-        for line in [
-            "refused 2",
-            "refused 3",
-            "refused 4",
-            "refused 6",
-            "refused 7",
+        // 13 comes in the place of some of 6 and 7.
+        for (line, least) in [
+            ("refused 2", 10),
+            ("refused 3", 10),
+            ("refused 4", 10),
+            ("refused 6", 5),
+            ("refused 7", 5),
+            ("refused 13", 1),
         ] {
-            assert!(count_of("several refusals at once", line) >= 10, "{line}");
+            let count = count_of("several refusals at once", line);
+            assert!(count >= least, "{line}: {count}");
         }
         assert!(count_of("after both closes", "done") >= 30);
         assert!(count_of("after both closes", "refused 2") >= 30);
-        assert!(count_of("the document's examples", "done") == 100);
+        let example = |line| count_of("the document's examples", line);
+        assert_eq!(example("done") + example("refused 13"), 100);
     }
 
-    /// By near keys: of the couples of accepted entries that hold at the same
-    /// time, how many have keys at the width, and how many just beyond it.
-    fn at_and_beyond(width: u32, feed: &[u8]) -> [usize; 2] {
-        let mut last = Join::fresh(Rule::Near(width));
-        printed_watched(Rule::Near(width), feed, READ_LIMIT, |join| {
-            last = join.clone()
+    /// The records of a feed as far as they can be read.
+    fn records(feed: &[u8]) -> Vec<Record> {
+        let mut records = Vec::new();
+        let mut place = 0;
+        while let Reading::Record(record, next) = reading(feed, place) {
+            records.push(record);
+            place = next;
+        }
+        records
+    }
+
+    /// A near feed with what comes of it.
+    struct Near {
+        width: u32,
+        /// As it stands where the feed ends or is refused.
+        join: Join,
+        printed: String,
+        /// The entry that is refused.
+        refused: Option<(Stream, Entry)>,
+    }
+
+    fn near_feeds() -> impl Iterator<Item = Near> {
+        feeds(1, 3000).filter_map(|made| match made.rule {
+            Rule::Near(width) => Some(near(width, &made.feed)),
+            _ => None,
+        })
+    }
+
+    fn near(width: u32, feed: &[u8]) -> Near {
+        let rule = Rule::Near(width);
+        let mut join = Join::fresh(rule);
+        let mut accepted = 0;
+        let printed = printed_watched(rule, feed, READ_LIMIT, |after| {
+            join = after.clone();
+            accepted += 1;
         });
+        while let Take::Pair(_) = join.take() {}
+        let refused = match records(feed).get(accepted) {
+            Some(Record::Entry(stream, entry)) => Some((*stream, *entry)),
+            _ => None,
+        };
+        Near {
+            width,
+            join,
+            printed,
+            refused,
+        }
+    }
+
+    /// Of the couples of accepted entries that hold at the same time, how many
+    /// have keys at the width, and how many just beyond it.
+    fn at_and_beyond(near: &Near) -> [usize; 2] {
         let mut counts = [0, 0];
-        for a in last.accepted(Stream::A) {
-            for b in last.accepted(Stream::B) {
-                let beyond = u64::from(a.key.abs_diff(b.key)).checked_sub(width.into());
+        for a in near.join.accepted(Stream::A) {
+            for b in near.join.accepted(Stream::B) {
+                let beyond = distance(a.key, b.key).checked_sub(near.width);
                 if let (true, Some(beyond @ 0..=1)) = (a.start < b.end && b.start < a.end, beyond) {
                     counts[beyond as usize] += 1;
                 }
@@ -262,20 +318,80 @@ mod tests {
     #[test]
     fn near_keys_stand_at_every_width_and_just_beyond_it() {
         let mut by_width: BTreeMap<u32, [usize; 2]> = BTreeMap::new();
-        for made in feeds(1, 3000) {
-            if let Rule::Near(width) = made.rule {
-                let counts = by_width.entry(width).or_default();
-                for (sum, count) in counts.iter_mut().zip(at_and_beyond(width, &made.feed)) {
-                    *sum += count;
-                }
+        for near in near_feeds() {
+            let counts = by_width.entry(near.width).or_default();
+            for (sum, count) in counts.iter_mut().zip(at_and_beyond(&near)) {
+                *sum += count;
             }
         }
-        assert_eq!(by_width.len(), 12);
+        assert_eq!(by_width.len(), 13);
         for (width, [at, beyond]) in by_width {
-            assert!(at >= 100, "{at} at {width}");
-            // No key is beyond the largest width.
-            assert_eq!(beyond >= 50, width < u32::MAX, "{beyond} beyond {width}");
+            // No two keys are farther apart than half a turn.
+            assert_eq!(at >= 100, width <= 18_000, "{at} at {width}");
+            assert_eq!(beyond >= 50, width < 18_000, "{beyond} beyond {width}");
         }
+    }
+
+    #[test]
+    fn near_feeds_have_the_keys_at_which_the_circle_decides() {
+        let mut with_key: BTreeMap<u32, usize> = BTreeMap::new();
+        for Near { join, refused, .. } in near_feeds() {
+            let accepted = [Stream::A, Stream::B].map(|stream| join.accepted(stream));
+            let refused = refused.iter().map(|(_, entry)| entry);
+            let met = accepted.into_iter().flatten().chain(refused);
+            let keys: BTreeSet<u32> = met.map(|entry| entry.key).collect();
+            for key in keys {
+                *with_key.entry(key).or_default() += 1;
+            }
+        }
+        for key in [0, 18_000, 35_999, 36_000, u32::MAX] {
+            assert!(with_key[&key] >= 20, "{key}: {}", with_key[&key]);
+        }
+        for key in [1, 17_999, 18_001, 35_998, 36_001, u32::MAX - 1] {
+            assert!(with_key[&key] >= 5, "{key}: {}", with_key[&key]);
+        }
+    }
+
+    #[test]
+    fn many_near_feeds_print_pairs_across_the_seam() {
+        let is_across = |line: &str| {
+            let fields: Vec<u32> = line.split(' ').flat_map(str::parse).collect();
+            match fields[..] {
+                [_, _, _, _, a_key, b_key, _, _] => {
+                    a_key.max(b_key) > 35_000 && a_key.min(b_key) < 1_000
+                }
+                _ => false, // the last line
+            }
+        };
+        let feeds = near_feeds()
+            .filter(|near| near.printed.lines().any(is_across))
+            .count();
+        assert!(feeds >= 100, "{feeds}");
+    }
+
+    #[test]
+    fn a_key_off_the_circle_meets_the_other_checks_of_an_entry() {
+        let mut by_line: BTreeMap<String, usize> = BTreeMap::new();
+        let (mut area_full, mut waiting_full) = (0, 0);
+        for near in near_feeds() {
+            let Some((stream, entry)) = near.refused.filter(|(_, entry)| entry.key >= TURN) else {
+                continue;
+            };
+            let line = without_counts(near.printed.lines().last().unwrap());
+            *by_line.entry(line.to_string()).or_default() += 1;
+            if line == "refused 13" {
+                let join = near.join;
+                let is_held = join.is_wanted(stream, &entry);
+                area_full += usize::from(is_held && join.area(stream).len() == HELD_LIMIT);
+                waiting_full += usize::from(join.waiting().len() == WAITING_LIMIT);
+            }
+        }
+        // In the order of the text; 6 and 7 come after 13.
+        let given: Vec<&str> = by_line.keys().map(String::as_str).collect();
+        assert_eq!(given, ["refused 13", "refused 2", "refused 3", "refused 4"]);
+        assert!(by_line.values().all(|count| *count >= 5), "{by_line:?}");
+        assert!(area_full >= 5, "{area_full}");
+        assert!(waiting_full >= 3, "{waiting_full}");
     }
 
     #[test]
@@ -292,11 +408,9 @@ mod tests {
     fn every_note_length_and_every_cut_is_made() {
         let mut lengths = [false; 65];
         let mut cuts = [false; 100];
-        let mut small_cuts = std::collections::BTreeSet::new();
+        let mut small_cuts = BTreeSet::new();
         for Made { kind, feed, .. } in feeds(1, 3000) {
-            let mut place = 0;
-            while let Reading::Record(record, next) = reading(&feed, place) {
-                place = next;
+            for record in records(&feed) {
                 if let Record::Note(text) = record {
                     lengths[text.len()] = true;
                 }

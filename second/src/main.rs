@@ -9,7 +9,8 @@ const USAGE: &str = "\
 second join [--rule RULE] [LIMIT]
                          a feed -> what must be printed of it, joined by equal
                          keys, as joinfeed joins, or by a RULE: equal, near:2
-                         (near keys, width 2) or every; read up to LIMIT bytes
+                         (keys on a circle of 36000 at most 2 apart) or every;
+                         read up to LIMIT bytes
 second feed              text lines -> a feed
 second text              a feed -> text lines
 second make SEED COUNT   a bundle of COUNT feeds made from SEED, each with a rule

@@ -14,6 +14,7 @@ mod draft;
 mod keyed;
 mod ordinary;
 mod refused;
+mod strayed;
 
 use crate::chance::Chance;
 use crate::rules::Rule;
@@ -94,7 +95,8 @@ fn made(seed: u64, number: u64) -> Made {
         _ => {
             let feed = (kind.make)(&mut chance, round);
             let rule = keyed::rule_of(&mut chance, turn as u32, round);
-            (rule, keyed::keyed(feed, rule, kind.exact, &mut chance))
+            let feed = keyed::keyed(feed, rule, kind.exact, &mut chance);
+            (rule, strayed::strayed(feed, rule, &mut chance))
         }
     };
     let kind = kind.name;
@@ -130,7 +132,7 @@ mod tests {
         let is_example = |made: &Made| made.feed == ordinary::example_11();
         let example = feeds(1, 3000).find(is_example).unwrap();
         assert_eq!(example.rule, Rule::Near(2));
-        let printed = "0 9 0 0 5 7 0 1\ndone 5 1\n";
+        let printed = "0 9 0 0 5 7 0 1\n0 9 1 2 35999 1 3 4\ndone 7 2\n";
         assert_eq!(printed_by(example.rule, &example.feed), printed);
     }
 }

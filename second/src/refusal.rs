@@ -1,5 +1,6 @@
 //! The numbers a caller may get: those of document 01's table that a feed can
-//! meet, in the table's order.
+//! meet, in the table's order, and 13 of document 02 where an entry is checked for
+//! it.
 
 #[derive(Clone, Copy, Debug, PartialEq, Eq)]
 pub enum Refusal {
@@ -13,6 +14,8 @@ pub enum Refusal {
     BelowClock = 4,
     /// 1,000,000 entries already accepted
     TooMany = 5,
+    /// near rule and key not below 36,000
+    OffCircle = 13,
     /// the entry is wanted and its area already holds 64
     AreaFull = 6,
     /// waiting pairs plus new pairs exceed 256

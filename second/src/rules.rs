@@ -1,4 +1,5 @@
-//! The join, sentence by sentence as document 01 states it.
+//! The join, sentence by sentence as document 01 states it, near keys as P2 of
+//! document 02 does.
 //!
 //! Every accepted entry is kept for good. What an area holds is found afresh
 //! each time it is asked for, and the waiting pairs are sorted after each entry.
@@ -11,6 +12,8 @@ pub const HELD_LIMIT: usize = 64;
 pub const WAITING_LIMIT: usize = 256;
 /// 1,000,000 accepted entries a journal.
 pub const ACCEPTED_LIMIT: usize = 1_000_000;
+/// A whole turn: near keys are axis angles in hundredths of a degree.
+pub const TURN: u32 = 36_000;
 
 /// Journal A is stream 0, B is stream 1.
 #[derive(Clone, Copy, Debug, PartialEq, Eq)]
@@ -54,14 +57,32 @@ pub enum Rule {
 }
 
 impl Rule {
-    /// Near means that the larger key less the smaller is at most the width.
+    /// Under near a key of 36,000 or more pairs with nothing, and its entry is
+    /// refused. The other rules take any key.
+    pub fn allows(self, key: u32) -> bool {
+        match self {
+            Rule::Near(_) => key < TURN,
+            Rule::Equal | Rule::Every => true,
+        }
+    }
+
+    /// Near means that the distance of the keys is at most the width.
     pub fn holds(self, a_key: u32, b_key: u32) -> bool {
         match self {
             Rule::Equal => a_key == b_key,
-            Rule::Near(width) => a_key.max(b_key) - a_key.min(b_key) <= width,
+            Rule::Near(width) => {
+                self.allows(a_key) && self.allows(b_key) && distance(a_key, b_key) <= width
+            }
             Rule::Every => true,
         }
     }
+}
+
+/// The distance of two keys below 36,000 is the smaller of the difference and
+/// 36,000 less the difference.
+pub fn distance(a_key: u32, b_key: u32) -> u32 {
+    let difference = a_key.max(b_key) - a_key.min(b_key);
+    difference.min(TURN - difference)
 }
 
 /// The pair carries the meeting, both ordinals, both keys, both values.
@@ -227,6 +248,9 @@ impl Join {
         }
         if self.journal(stream).accepted.len() >= ACCEPTED_LIMIT {
             return Err(Refusal::TooMany);
+        }
+        if !self.rule.allows(entry.key) {
+            return Err(Refusal::OffCircle);
         }
         if self.is_wanted(stream, &entry) && self.area(stream).len() >= HELD_LIMIT {
             return Err(Refusal::AreaFull);

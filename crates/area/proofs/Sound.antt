@@ -17,6 +17,7 @@ use Rattle.lists.proofs.Store.{content-length, content-stored, stores-stored, s
 use Rattle.pairing.specs.declared.Entry.{Entry}
 use Rattle.pairing.specs.declared.Numbered.{Numbered}
 use Rattle.pairing.specs.declared.Rule.{Rule}
+use Rattle.pairing.specs.Rule.{allows}
 use Rattle.pairing.proofs.Arrival.{Later}
 use Rattle.journal.specs.declared.Gate.{Gate}
 use Rattle.journal.specs.declared.Gate.the-variants.{Open}
@@ -51,6 +52,7 @@ pub record SoundEntry (rule : Rule) (own : Journal) (other : Gate) (x : Numbered
   pub needed : wanted other (x .entry) ≡ true
   pub numbered : x .ordinal < own .accepted
   pub started : notPast (own .gate) (x .entry .span .start) ≡ true
+  pub allowed : allows rule (x .entry .key) ≡ true
 
 pub record SoundHeld (rule : Rule) (own : Journal) (other : Gate) (xs : List Numbered) : Type 0 where
   pub few : length xs ≤ most
@@ -77,15 +79,17 @@ module _ (rule : Rule) (own : Journal) (other : Gate) where
   entry-facts x e =
       let e1 = and-right (properOf (x .entry .span)) _ e in
       let e2 = and-right (wanted other (x .entry)) _ e1 in
+      let e3 = and-right (ltb (x .ordinal) (own .accepted)) _ e2 in
       record {
         proper = and-left (properOf (x .entry .span)) _ e;
         needed = and-left (wanted other (x .entry)) _ e1;
         numbered = ltb-true (x .ordinal) (own .accepted) (and-left (ltb (x .ordinal) (own .accepted)) _ e2);
-        started = and-right (ltb (x .ordinal) (own .accepted)) _ e2;
+        started = and-left (notPast (own .gate) (x .entry .span .start)) _ e3;
+        allowed = and-right (notPast (own .gate) (x .entry .span .start)) _ e3;
       }
 
   entry-judged : (x : Numbered) → SoundEntry rule own other x → soundEntry rule own other x ≡ true
-  entry-judged x h = rw (h .proper, h .needed, lt-ltb (x .ordinal) (own .accepted) (h .numbered), h .started)
+  entry-judged x h = rw (h .proper, h .needed, lt-ltb (x .ordinal) (own .accepted) (h .numbered), h .started, h .allowed)
 
   -- what the judge passes
   pub judged-held : (area : Area) (rows : Rows) → Holds area rows → soundArea rule own other area rows ≡ true → SoundHeld rule own other (held area rows)
@@ -126,7 +130,7 @@ module _ (rule : Rule) (own : Journal) (other : Gate) (xs : List Numbered) (h : 
   held-moved gate on = record {
     few = h .few;
     sounds = all-map (SoundEntry rule own other) (SoundEntry rule (moved gate own) other)
-        (λ x s. record { proper = s .proper; needed = s .needed; numbered = s .numbered; started = notPast-onward (own .gate) gate on (x .entry .span .start) (s .started) }) xs (h .sounds);
+        (λ x s. record { proper = s .proper; needed = s .needed; numbered = s .numbered; started = notPast-onward (own .gate) gate on (x .entry .span .start) (s .started); allowed = s .allowed }) xs (h .sounds);
     laters = h .laters;
   }
 
@@ -136,16 +140,16 @@ module _ (rule : Rule) (own : Journal) (other : Gate) (xs : List Numbered) (h : 
       let wants : Numbered → Bool = λ x. wanted gate (x .entry) in
       record {
         few = omega (arith, keep-length wants xs, h .few);
-        sounds = all-map₂ (SoundEntry rule own other) (λ (x : Numbered). wants x ≡ true) (SoundEntry rule own gate) (λ x s e. record { proper = s .proper; needed = e; numbered = s .numbered; started = s .started }) (wantedBy gate xs)
+        sounds = all-map₂ (SoundEntry rule own other) (λ (x : Numbered). wants x ≡ true) (SoundEntry rule own gate) (λ x s e. record { proper = s .proper; needed = e; numbered = s .numbered; started = s .started; allowed = s .allowed }) (wantedBy gate xs)
             (all-keep (SoundEntry rule own other) wants xs (h .sounds)) (keep-passes wants xs);
         laters = each-keep Later wants xs (h .laters);
       }
 
   -- an entry comes, and is held if wanted
-  module _ (e : Entry) (proper : properOf (e .span) ≡ true) (on : Onward (own .gate) (Open (e .span .start))) where
+  module _ (e : Entry) (proper : properOf (e .span) ≡ true) (allowed : allows rule (e .key) ≡ true) (on : Onward (own .gate) (Open (e .span .start))) where
     still : All (SoundEntry rule (entered e own) other) xs
     still = all-map (SoundEntry rule own other) (SoundEntry rule (entered e own) other)
-        (λ x s. record { proper = s .proper; needed = s .needed; numbered = omega (arith, s .numbered); started = notPast-onward (own .gate) (Open (e .span .start)) on (x .entry .span .start) (s .started) }) xs (h .sounds)
+        (λ x s. record { proper = s .proper; needed = s .needed; numbered = omega (arith, s .numbered); started = notPast-onward (own .gate) (Open (e .span .start)) on (x .entry .span .start) (s .started); allowed = s .allowed }) xs (h .sounds)
 
     -- the new one is later than all
     before-new : (x : Numbered) → SoundEntry rule own other x → Later x (arriving own e)
@@ -158,7 +162,7 @@ module _ (rule : Rule) (own : Journal) (other : Gate) (xs : List Numbered) (h : 
         go true w = record {
           few = omega (arith, room w, length-append xs (arriving own e ∷ []));
           sounds = all-append (SoundEntry rule (entered e own) other) xs (arriving own e ∷ []) still
-              (record { proper = proper; needed = w; numbered = omega arith; started = le-leb (e .span .start) (e .span .start) (omega arith) }, tt);
+              (record { proper = proper; needed = w; numbered = omega arith; started = le-leb (e .span .start) (e .span .start) (omega arith); allowed = allowed }, tt);
           laters = each-append Later xs (arriving own e ∷ []) (h .laters) (tt, tt) (all-map (SoundEntry rule own other) (λ (x : Numbered). All (Later x) (arriving own e ∷ [])) (λ x s. (before-new x s, tt)) xs (h .sounds));
         }
         go false w = rw (append-nil xs) (record { few = h .few; sounds = still; laters = h .laters })

@@ -12,6 +12,7 @@ use Rattle.pairing.specs.declared.Entry.{Entry}
 use Rattle.pairing.specs.declared.Numbered.{Numbered}
 use Rattle.pairing.specs.declared.Rule.{Rule}
 use Rattle.pairing.specs.Pair.{pairs}
+use Rattle.pairing.specs.Rule.{allows}
 use Rattle.journal.specs.declared.Gate.{Gate}
 use Rattle.journal.specs.declared.Journal.{Journal}
 use Rattle.journal.specs.Journal.{wanted, notPast}
@@ -61,10 +62,10 @@ partners rule e xs = keep (λ (x : Numbered). pairs rule e (x .entry)) xs
 abbrev pub wantedBy : Gate → List Numbered → List Numbered
 wantedBy gate xs = keep (λ (x : Numbered). wanted gate (x .entry)) xs
 
--- Held entries are proper, wanted, with ordinals below the journal's count and starts that, if their journal is open, do not pass its clock.
+-- Held entries are proper, wanted, with ordinals below the journal's count and starts that, if their journal is open, do not pass its clock. Under near none has a key of 36,000 or more.
 abbrev pub soundEntry : Rule → Journal → Gate → Numbered → Bool
 soundEntry rule own other x =
-    properOf (x .entry .span) && (wanted other (x .entry) && (ltb (x .ordinal) (own .accepted) && notPast (own .gate) (x .entry .span .start)))
+    properOf (x .entry .span) && (wanted other (x .entry) && (ltb (x .ordinal) (own .accepted) && (notPast (own .gate) (x .entry .span .start) && allows rule (x .entry .key))))
 
 -- in strictly ascending ordinals, with starts that never fall
 abbrev pub follows : Numbered → Numbered → Bool

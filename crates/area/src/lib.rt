@@ -117,7 +117,9 @@ fn entry_sound(x: Numbered, rule: Rule, own: Journal, other: Gate) -> bool
 {
     let gate = own.gate;
     x.entry.span.proper()
-        && (other.wants(x.entry) && (x.ordinal < own.accepted && gate.reached(x.entry.span.start)))
+        && (other.wants(x.entry)
+            && (x.ordinal < own.accepted
+                && (gate.reached(x.entry.span.start) && rule.allows(x.entry.key))))
 }
 
 fn followed(x: Numbered, y: Numbered) -> bool

@@ -19,7 +19,7 @@ use Rattle.pairing.specs.declared.Side.{Side}
 use Rattle.pairing.specs.declared.Side.the-variants.{A, B}
 use Rattle.pairing.specs.Pair.{pairs, partnerOf, pairOf, comesBefore}
 use Rattle.pairing.specs.Plain.{coupleThat, couplesThat, plain, matchAt, couplesAt}
-use Rattle.pairing.specs.Rule.{fits}
+use Rattle.pairing.specs.Rule.{allows, fits}
 use Rattle.pairing.specs.Side.{newPairs}
 use Rattle.pairing.specs.Numbers.{pairNumbers, pairIn}
 use Rattle.journal.specs.declared.Gate.the-variants.{Open}
@@ -27,7 +27,7 @@ use Rattle.journal.specs.Journal.{wanted, ownRows}
 use Rattle.area.specs.Area.{heldIn, rowOf, soundArea, wantedBy}
 use Rattle.queue.specs.Queue.{soundQueue}
 use Rattle.halves.specs.View.{View}
-use Rattle.halves.specs.Calls.{arrival, roomFor, entryRows, afterEntry}
+use Rattle.halves.specs.Calls.{arrival, keyRows, roomFor, entryRows, afterEntry}
 use Rattle.join.specs.State.{view, stateOf, sound, freshState}
 use Rattle.join.specs.Calls.{entryCall, waitingIn, without}
 use Rattle.demands.specs.Demands.{pairsOf, EachInstant, CountsAccepted, FirstStretch, ran}
@@ -58,7 +58,7 @@ spanning start end = record { span = record { start = start; end = end }; key = 
 
 -- with the join's own, it is the world of the calls
 pub entering-own : entering afterEntry B (spanning 0 9) (entering afterEntry A (spanning 0 9) (begin Equal)) ≡ ran Equal (Enter 0 (spanning 0 9) ∷ Enter 1 (spanning 0 9) ∷ [])
-unfolding flatMap properOf meetingOf ascending neither padTo pairs partnerOf pairOf comesBefore coupleThat couplesThat fits heldIn rowOf soundArea pairIn pairNumbers soundQueue view stateOf sound freshState ownRows roomFor entryRows afterEntry entryCall
+unfolding flatMap properOf meetingOf ascending neither padTo pairs partnerOf pairOf comesBefore coupleThat couplesThat allows fits heldIn rowOf soundArea pairIn pairNumbers soundQueue view stateOf sound freshState ownRows keyRows roomFor entryRows afterEntry entryCall
 entering-own = refl
 
 -- ---- what refutes the statement: a pair of these two ordinals is nowhere, and should hold at t
@@ -149,7 +149,7 @@ pub record Broken : Type 0 where
   pub hands-early : FirstStretch Equal after-early (entering afterEntry B (keyed 2) after-early) → ⊥
 
 pub broken : Broken
-unfolding flatMap properOf holdsAt meetingOf ascending neither padTo pairs partnerOf pairOf comesBefore coupleThat couplesThat plain matchAt couplesAt fits heldIn rowOf soundArea pairIn pairNumbers soundQueue view stateOf sound freshState ownRows roomFor entryRows afterEntry entryCall without
+unfolding flatMap properOf holdsAt meetingOf ascending neither padTo pairs partnerOf pairOf comesBefore coupleThat couplesThat plain matchAt couplesAt allows fits heldIn rowOf soundArea pairIn pairNumbers soundQueue view stateOf sound freshState ownRows keyRows roomFor entryRows afterEntry entryCall without
 broken = record {
   holds-nothing = λ h. never (lacks after-nothing 0 0 0 refl h);
   pairs-first = λ h. never (lacks after-first 0 1 0 refl h);

@@ -1,11 +1,10 @@
 -- Every state that calls reach from a fresh join is sound, so that none of them is answered with 8.
-use Prim.Native.Nat.{ℕ, _<_}
-use native.Mathlib.Omega.{arith}
-use mathlib.Core.Bool.{Bool, true, false, cond}
+use Prim.Native.Nat.{ℕ}
+use mathlib.Core.Bool.{Bool, true, false, not, cond}
 use mathlib.Core.List.{List, [], _∷_, _++_}
 use mathlib.Core.Path.{_≡_, refl}
-use lib.Dec.{ltb}
-use borrow.Author.Tests.{ltb-true}
+use lib.Dec.{ltb, eqb}
+use borrow.Author.Tests.{eqb-false, not-true}
 use Rattle.lists.specs.Judge.{allOf}
 use Rattle.lists.specs.Check.{Check, _gives_}
 use Rattle.pairing.specs.declared.Pair.{Pair}
@@ -13,7 +12,7 @@ use Rattle.pairing.specs.declared.Rule.{Rule}
 use Rattle.journal.specs.Answer.{numberOf, firstOf}
 use Rattle.journal.specs.Journal.{markRows, ownRows}
 use Rattle.journal.proofs.Rows.{number-rows}
-use Rattle.halves.specs.Calls.{roomFor, entryRows, closeRows}
+use Rattle.halves.specs.Calls.{keyRows, roomFor, entryRows, closeRows}
 use Rattle.join.specs.declared.Took.the-variants.{Handed, Waiting}
 use Rattle.join.specs.State.{State, Sound, view}
 use Rattle.join.specs.Calls.{sideOf, judgeRows, entryCall, markCall, closeCall, readyIn, bothClosed, waitingIn, nextOf, takeOn, takeCall, tookNumber}
@@ -47,9 +46,12 @@ numberAt s (Mark stream time) = numberOf (markCall s stream time .answer)
 numberAt s (Close stream) = numberOf (closeCall s stream .answer)
 numberAt s Take = tookNumber (takeCall s .answer)
 
+abbrev not-8 : ℕ → Bool
+not-8 n = not (eqb n 8)
+
 -- on a sound state the row of 8 does not apply, and no other row gives 8
-judged-number : (s : State) → Sound s → (stream : ℕ) (rows : List Check) → allOf (λ (row : Check). ltb (row .number) 8) rows ≡ true → numberOf (firstOf (judgeRows s stream ++ rows)) < 8
-judged-number s h stream rows low = rw (h .judged) (ltb-true _ 8 (number-rows (λ (n : ℕ). ltb n 8) ((ltb 1 stream gives 1) ∷ rows) refl low))
+judged-number : (s : State) → Sound s → (stream : ℕ) (rows : List Check) → allOf (λ (row : Check). not-8 (row .number)) rows ≡ true → not-8 (numberOf (firstOf (judgeRows s stream ++ rows))) ≡ true
+judged-number s h stream rows others = rw (h .judged) (number-rows not-8 ((ltb 1 stream gives 1) ∷ rows) refl others)
 
 next-number : (ready : Pair → Bool) (closed : Bool) (ps : List Pair) → tookNumber (nextOf ready closed ps) ≡ 0
 next-number ready true [] = refl
@@ -60,16 +62,16 @@ next-number ready closed (p ∷ ps) = go (ready p)
     go true = refl
     go false = refl
 
--- a call on a sound state gets a number below 8
-pub sound-number : (s : State) → Sound s → (c : Call) → numberAt s c < 8
-unfolding entryCall ownRows roomFor entryRows markCall closeCall
+-- a call on a sound state gets another number
+pub sound-number : (s : State) → Sound s → (c : Call) → not-8 (numberAt s c) ≡ true
+unfolding entryCall ownRows keyRows roomFor entryRows markCall closeCall
 sound-number s h (Enter stream e) = judged-number s h stream (entryRows (sideOf stream) (view (sideOf stream) s) e) refl
 sound-number s h (Mark stream time) = judged-number s h stream (markRows time (view (sideOf stream) s .own)) refl
 sound-number s h (Close stream) = judged-number s h stream (closeRows (view (sideOf stream) s .own)) refl
 sound-number s h Take =
     let none : tookNumber (takeOn s .answer) ≡ 0 = next-number (readyIn s) (bothClosed (s .join)) (waitingIn s) in
-    rw (take-sound s h) (omega arith)
+    rw (take-sound s h, none)
 
 -- no call of a history is answered with 8
 pub reached-not-8 : (rule : Rule) (cs : List Call) (c : Call) → numberAt (run (begin rule) cs .state) c ≡ 8 → ⊥
-reached-not-8 rule cs c e = omega (arith, sound-number (run (begin rule) cs .state) (reached rule cs) c)
+reached-not-8 rule cs c e = eqb-false _ 8 (not-true _ (sound-number (run (begin rule) cs .state) (reached rule cs) c)) e

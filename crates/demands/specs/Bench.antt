@@ -1,4 +1,4 @@
--- The twelve bench examples of document 01, of the definitions themselves, as a single table under a single statement.
+-- The twelve bench examples of document 01, with what P2 adds to the eleventh, of the definitions themselves, as a single table under a single statement.
 use Prim.Native.Nat.{ℕ, zero, suc}
 use mathlib.Core.List.{List, [], _∷_, _++_, map, flatMap}
 use mathlib.Core.Path.{_≡_}
@@ -143,6 +143,15 @@ table =
     -- Near, width 2: keys 5 and 7 pair, 5 and 8 do not.
     ∷ line 11 (Near 2) (aKey 0 9 5 ∷ []) (bKey 0 9 7) (sees Accepted 1 1 (pair 0 9 0 0 ∷ []) 0)
     ∷ line 11 (Near 2) (aKey 0 9 5 ∷ []) (bKey 0 9 8) (sees Accepted 1 1 [] 0)
+    -- Keys 35,999 and 1 pair, 35,999 and 2 do not; a key of 36,000 is refused with 13.
+    ∷ line 11 (Near 2) (aKey 0 9 35999 ∷ []) (bKey 0 9 1) (sees Accepted 1 1 (pair 0 9 0 0 ∷ []) 0)
+    ∷ line 11 (Near 2) (aKey 0 9 35999 ∷ []) (bKey 0 9 2) (sees Accepted 1 1 [] 0)
+    ∷ line 11 (Near 2) [] (aKey 0 9 36000) (sees (Refused 13) 0 0 [] 0)
+    -- 0 and 18,000 are 18,000 apart either way round.
+    ∷ line 11 (Near 18000) (aKey 0 9 0 ∷ []) (bKey 0 9 18000) (sees Accepted 1 1 (pair 0 9 0 0 ∷ []) 0)
+    ∷ line 11 (Near 18000) (aKey 0 9 18000 ∷ []) (bKey 0 9 0) (sees Accepted 1 1 (pair 0 9 0 0 ∷ []) 0)
+    ∷ line 11 (Near 17999) (aKey 0 9 0 ∷ []) (bKey 0 9 18000) (sees Accepted 1 1 [] 0)
+    ∷ line 11 (Near 17999) (aKey 0 9 18000 ∷ []) (bKey 0 9 0) (sees Accepted 1 1 [] 0)
     -- Take: Waiting. Close both, take: Finished.
     ∷ line 12 Equal [] Take (sees Waiting 0 0 [] 0)
     ∷ line 12 Equal (Take ∷ Close 0 ∷ Close 1 ∷ []) Take (sees Finished 0 0 [] 0)

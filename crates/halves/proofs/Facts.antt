@@ -1,12 +1,15 @@
 -- What an admitted entry and an accepted close are known to meet.
 use Prim.Native.Nat.{_+_, _≤_, _<_}
 use mathlib.Core.Bool.{Bool, true, false, _&&_, false≢true}
+use mathlib.Core.List.{_++_}
 use mathlib.Core.Path.{_≡_}
 use lib.Dec.{leb}
 use lib.ListN.{length}
-use borrow.Author.Tests.{leb-false, ltb-false}
+use borrow.Author.Tests.{leb-false, ltb-false, not-false}
 use Rattle.pairing.specs.declared.Entry.{Entry}
+use Rattle.pairing.specs.declared.Rule.{Rule}
 use Rattle.pairing.specs.declared.Side.{Side}
+use Rattle.pairing.specs.Rule.{allows}
 use Rattle.journal.specs.declared.Answer.the-variants.{Accepted}
 use Rattle.journal.specs.declared.Journal.{Journal}
 use Rattle.journal.specs.Answer.{firstOf}
@@ -16,7 +19,7 @@ use Rattle.journal.proofs.Rows.{accepted-rows, accepted-both}
 use Rattle.area.specs.Area as area
 use Rattle.queue.specs.Queue as queue
 use Rattle.halves.specs.View.{View}
-use Rattle.halves.specs.Calls.{formed, roomFor, roomRows, entryRows, closeRows}
+use Rattle.halves.specs.Calls.{formed, keyRows, roomFor, roomRows, entryRows, closeRows}
 
 -- there is room to hold it, if it is wanted, and for its pairs to wait
 pub record RoomMet (side : Side) (v : View) (e : Entry) : Type 0 where
@@ -36,15 +39,28 @@ room-met side v e h =
     full true b k w = k
     full false b k w = absurd (false≢true w)
 
+-- its journal alone does not refuse it, nor its key
+pub record FirstMet (rule : Rule) (j : Journal) (e : Entry) : Type 0 where
+  pub own : OwnMet j e
+  pub allowed : allows rule (e .key) ≡ true
+
+pub first-met : (rule : Rule) (j : Journal) (e : Entry) → firstOf (ownRows j e ++ keyRows rule e) ≡ Accepted → FirstMet rule j e
+unfolding keyRows
+first-met rule j e h =
+    let both = accepted-both (ownRows j e) (keyRows rule e) h in
+    record { own = own-met j e (both .first); allowed = not-false (allows rule (e .key)) (accepted-rows (keyRows rule e) (both .then) .0) }
+
 pub record Admitted (side : Side) (v : View) (e : Entry) : Type 0 where
   pub own : OwnMet (v .own) e
+  pub allowed : allows (v .rule) (e .key) ≡ true
   pub room : RoomMet side v e
 
 pub entry-met : (side : Side) (v : View) (e : Entry) → firstOf (entryRows side v e) ≡ Accepted → Admitted side v e
 unfolding entryRows
 entry-met side v e h =
-    let both = accepted-both (ownRows (v .own) e) (roomRows side v e) h in
-    record { own = own-met (v .own) e (both .first); room = room-met side v e (both .then) }
+    let both = accepted-both (ownRows (v .own) e ++ keyRows (v .rule) e) (roomRows side v e) h in
+    let first = first-met (v .rule) (v .own) e (both .first) in
+    record { own = first .own; allowed = first .allowed; room = room-met side v e (both .then) }
 
 -- a close finds its journal open
 pub close-met : (j : Journal) → firstOf (closeRows j) ≡ Accepted → isClosed (j .gate) ≡ false

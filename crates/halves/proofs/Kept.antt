@@ -63,7 +63,7 @@ module _ (side : Side) (v : View) (h : SoundView side v) where
       record {
         own-count = omega arith;
         other-count = h .other-count;
-        mine = areas.held-entered (v .rule) (v .own) (v .other .gate) (v .mine) (h .mine) e (met .own .proper) on (met .room .hold);
+        mine = areas.held-entered (v .rule) (v .own) (v .other .gate) (v .mine) (h .mine) e (met .own .proper) (met .allowed) on (met .room .hold);
         others = areas.held-cleared (v .rule) (v .other) (v .own .gate) (v .others) (h .others) (Open start);
         waiting = queues.waiting-merged side (v .own .accepted) (v .other .accepted) (v .waiting) (h .waiting) (v .rule) (arrival v e) (v .others) refl
             (all-map (areas.SoundEntry (v .rule) (v .other) (v .own .gate)) (λ (y : Numbered). y .ordinal < v .other .accepted) (λ y s. s .numbered) (v .others) (h .others .sounds))

@@ -33,7 +33,7 @@ use Rattle.queue.specs.declared.Queue.{Queue}
 use Rattle.queue.specs.Queue as queue
 use Rattle.halves.specs.declared.Halves.{Halves}
 use Rattle.halves.specs.View.{View, Stand, Leaves, seen}
-use Rattle.halves.specs.Calls.{arrival, formed, roomFor, roomRows, entryRows, afterEntry, afterMove}
+use Rattle.halves.specs.Calls.{arrival, formed, keyRows, roomFor, roomRows, entryRows, afterEntry, afterMove}
 use Rattle.halves.proofs.View.{mine-length, others-length, waiting-length, leaves-seen}
 
 -- ---- the new pairs of an entry
@@ -55,15 +55,15 @@ formed-ascending rule side x others e =
 -- ---- what an entry is answered
 
 module _ (side : Side) (v : View) (e : Entry) (answer : Answer) where
-  -- by its journal alone
-  pub answer-own : (number : ℕ) → answer ≡ firstOf (ownRows (v .own) e) → answer ≡ Refused number → answer ≡ firstOf (entryRows side v e)
+  -- whatever is held
+  pub answer-first : (number : ℕ) → answer ≡ firstOf (ownRows (v .own) e ++ keyRows (v .rule) e) → answer ≡ Refused number → answer ≡ firstOf (entryRows side v e)
   unfolding entryRows
-  answer-own number f g = g ∙ sym (first-refuses (ownRows (v .own) e) (roomRows side v e) number (sym f ∙ g))
+  answer-first number f g = g ∙ sym (first-refuses (ownRows (v .own) e ++ keyRows (v .rule) e) (roomRows side v e) number (sym f ∙ g))
 
   -- by the room that it finds
-  pub answer-room : firstOf (ownRows (v .own) e) ≡ Accepted → answer ≡ firstOf (roomRows side v e) → answer ≡ firstOf (entryRows side v e)
+  pub answer-room : firstOf (ownRows (v .own) e ++ keyRows (v .rule) e) ≡ Accepted → answer ≡ firstOf (roomRows side v e) → answer ≡ firstOf (entryRows side v e)
   unfolding entryRows
-  answer-room f g = g ∙ sym (first-passes (ownRows (v .own) e) (roomRows side v e) f)
+  answer-room f g = g ∙ sym (first-passes (ownRows (v .own) e ++ keyRows (v .rule) e) (roomRows side v e) f)
 
 -- ---- an entry that halves are given which stand
 

@@ -1,6 +1,6 @@
 -- What refuses an entry, a mark and a close of one journal, and what they leave.
 use Prim.Native.Nat.{ℕ, _+_}
-use mathlib.Core.Bool.{Bool, _&&_}
+use mathlib.Core.Bool.{Bool, not, _&&_}
 use mathlib.Core.List.{List, [], _∷_, _++_}
 use lib.Dec.{ltb, leb}
 use lib.ListN.{length}
@@ -9,8 +9,10 @@ use Rattle.lists.specs.Check.{Check, _gives_}
 use Rattle.pairing.specs.declared.Entry.{Entry}
 use Rattle.pairing.specs.declared.Numbered.{Numbered}
 use Rattle.pairing.specs.declared.Pair.{Pair}
+use Rattle.pairing.specs.declared.Rule.{Rule}
 use Rattle.pairing.specs.declared.Side.{Side}
 use Rattle.pairing.specs.Pair.{comesBefore}
+use Rattle.pairing.specs.Rule.{allows}
 use Rattle.pairing.specs.Side.{newPairs}
 use Rattle.journal.specs.declared.Gate.{Gate}
 use Rattle.journal.specs.declared.Gate.the-variants.{Open}
@@ -30,6 +32,10 @@ arrival v e = record { entry = e; ordinal = v .own .accepted }
 abbrev pub formed : Side → View → Entry → List Pair
 formed side v e = newPairs (v .rule) side (arrival v e) (v .others)
 
+-- 13: near rule and key not below 36,000
+unfoldable pub keyRows : Rule → Entry → List Check
+keyRows rule e = (not (allows rule (e .key)) gives 13) ∷ []
+
 -- the rows of room, by whether the entry is wanted, how many entries its area holds, and how many pairs would wait
 -- 6: the entry is wanted and its area already holds 64. 7: waiting pairs plus new pairs exceed 256.
 unfoldable pub roomFor : Bool → ℕ → ℕ → List Check
@@ -38,9 +44,9 @@ roomFor isWanted held waiting = (isWanted && leb area.most held gives 6) ∷ (lt
 abbrev pub roomRows : Side → View → Entry → List Check
 roomRows side v e = roomFor (wanted (v .other .gate) e) (length (v .mine)) (length (v .waiting) + length (formed side v e))
 
--- the rows of the journal alone, then those of room
+-- the rows of the journal alone, then that of the key, then those of room
 unfoldable pub entryRows : Side → View → Entry → List Check
-entryRows side v e = ownRows (v .own) e ++ roomRows side v e
+entryRows side v e = (ownRows (v .own) e ++ keyRows (v .rule) e) ++ roomRows side v e
 
 -- its pairs wait, in order; its journal's clock is its start; the other area is cleared by that clock; it is held if wanted
 unfoldable pub afterEntry : Side → View → Entry → View

@@ -19,7 +19,7 @@ ghost use Rattle.journal.specs.Journal.{wanted, ownRows, markRows};
 ghost use Rattle.area.specs.Area as the_area;
 ghost use Rattle.queue.specs.Queue as the_queue;
 ghost use Rattle.halves.specs.View.{Stand, Leaves, seen};
-ghost use Rattle.halves.specs.Calls.{formed, roomFor, roomRows, entryRows, afterEntry, afterMove, closeRows};
+ghost use Rattle.halves.specs.Calls.{formed, keyRows, roomFor, roomRows, entryRows, afterEntry, afterMove, closeRows};
 
 // A journal, and how much its area holds.
 pub struct Half {
@@ -39,6 +39,20 @@ pub struct Halves {
 pub struct Entered {
     pub answer: Answer,
     pub halves: Halves,
+}
+
+// What refuses an entry whatever is held: its journal alone, then a key that the rule does not allow.
+fn first_answer(rule: Rule, journal: Journal, e: Entry) -> Answer
+    ensures { λ r. ⌜ r ≡ firstOf (ownRows journal e ++ keyRows rule e) ⌝ }
+{
+    let own = journal.own_answer(e);
+    let Answer::Accepted = own else {
+        return own;
+    };
+    if !rule.allows(e.key) {
+        return Answer::Refused(refusals::NO_ANGLE);
+    }
+    own
 }
 
 // The entry held behind the others, if the other journal wants it.
@@ -83,7 +97,7 @@ impl Halves {
         new: usize,
     ) -> Halves
         requires { ⌜ Stand self (now mine) (now others) (now rows) ⌝ }
-        requires { ⌜ (firstOf (ownRows (self .own .journal) e) ≡ Answer.Accepted) × (firstOf (roomRows side (seen self (now mine) (now others) (now rows)) e) ≡ Answer.Accepted) × (new ≡ length (formed side (seen self (now mine) (now others) (now rows)) e)) ⌝ }
+        requires { ⌜ (firstOf (ownRows (self .own .journal) e ++ keyRows (self .rule) e) ≡ Answer.Accepted) × (firstOf (roomRows side (seen self (now mine) (now others) (now rows)) e) ≡ Answer.Accepted) × (new ≡ length (formed side (seen self (now mine) (now others) (now rows)) e)) ⌝ }
         ensures { λ r. ⌜ Leaves (afterEntry side (seen self (now (mine .entry)) (now (others .entry)) (now (rows .entry))) e) r (now (mine .exit)) (now (others .exit)) (now (rows .exit)) ⌝ }
     {
         let rule = self.rule;
@@ -115,7 +129,7 @@ impl Halves {
         }
     }
 
-    // An entry: refused by its journal alone, refused for want of room, or admitted.
+    // An entry: refused whatever is held, refused for want of room, or admitted.
     pub fn enter(
         self,
         side: Side,
@@ -128,15 +142,15 @@ impl Halves {
         ensures { λ r. ⌜ r .answer ≡ firstOf (entryRows side (seen self (now (mine .entry)) (now (others .entry)) (now (rows .entry))) e) ⌝ }
         ensures { λ r. ⌜ Leaves (unlessRefused (r .answer) (afterEntry side (seen self (now (mine .entry)) (now (others .entry)) (now (rows .entry))) e) (seen self (now (mine .entry)) (now (others .entry)) (now (rows .entry)))) (r .halves) (now (mine .exit)) (now (others .exit)) (now (rows .exit)) ⌝ }
     {
+        let rule = self.rule;
         let journal = self.own.journal;
-        let first = journal.own_answer(e);
+        let first = first_answer(rule, journal, e);
         let Answer::Accepted = first else {
             return Entered {
                 answer: first,
                 halves: self,
             };
         };
-        let rule = self.rule;
         let other_area = self.other.area;
         let new = other_area.partners(others, rule, e);
         let answer = self.room_answer(e, new);

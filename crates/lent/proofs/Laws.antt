@@ -1,7 +1,7 @@
 -- Laws of the two services.
 use Prim.Native.Nat.{ℕ, _+_, _≤_, _<_, min}
-use mathlib.Core.Bool.{Bool, true, false, not, cond}
-use mathlib.Core.List.{List, [], _∷_}
+use mathlib.Core.Bool.{Bool, true, false, not, false≢true}
+use mathlib.Core.List.{List}
 use mathlib.Core.Path.{_≡_, refl, sym, ap, _∙_}
 use lib.Dec.{T as Holds}
 use lib.Ieee.Bits.{is-true, is-false}
@@ -10,12 +10,15 @@ use lib.Seq.{take-all}
 use Rattle.interval.specs.Interval.{properOf}
 use Rattle.lists.specs.Keep.{keep}
 use Rattle.lists.specs.Store.{Rows}
-use Rattle.lists.proofs.Keep.{kept-more, kept-same, keep-bound, keep-map}
+use Rattle.lists.proofs.All.{all-any}
+use Rattle.lists.proofs.Bools.{bool-ext}
+use Rattle.lists.proofs.Keep.{keep-none, keep-keep, kept-more, kept-same, keep-bound, keep-map}
 use Rattle.pairing.specs.declared.Entry.{Entry}
 use Rattle.pairing.specs.declared.Numbered.{Numbered}
 use Rattle.pairing.specs.declared.Rule.{Rule}
 use Rattle.pairing.specs.Pair.{pairs}
-use Rattle.pairing.proofs.Pairs.{pairs-comm, pairs-improper}
+use Rattle.pairing.specs.Rule.{allows}
+use Rattle.pairing.proofs.Pairs.{pairs-comm, pairs-proper, pairs-allows}
 use Rattle.journal.specs.declared.Answer.{Answer}
 use Rattle.journal.specs.declared.Answer.the-variants.{Accepted, Refused}
 use Rattle.journal.specs.declared.Gate.the-variants.{Open}
@@ -29,19 +32,23 @@ use Rattle.lent.specs.Counted.{answered, counted, entriesOf}
 
 -- ---- the count
 
--- what fails q fails p, so that it may be left out first
-keep-keep : {A : Type 0} (p q : A → Bool) → ((x : A) → q x ≡ false → p x ≡ false) → (xs : List A) → keep p (keep q xs) ≡ keep p xs
-keep-keep p q h [] = refl
-keep-keep p q h (x ∷ xs) = go (q x) refl (keep-keep p q h xs)
-  where
-    go : (b : Bool) → q x ≡ b → keep p (keep q xs) ≡ keep p xs → keep p (cond b (x ∷ keep q xs) (keep q xs)) ≡ cond (p x) (x ∷ keep p xs) (keep p xs)
-    go true e rest = rw rest
-    go false e rest = rw (h x e) rest
+-- what cannot be a partner may be left out of the run first
+counted-passing : (rule : Rule) (given : Entry) (run : List Entry) (test : Entry → Bool) → ((e : Entry) → pairs rule given e ≡ true → test e ≡ true) → counted rule given (keep test run) ≡ counted rule given run
+counted-passing rule given run test h = ap (λ (l : List Entry). answered given (length l)) (keep-keep (pairs rule given) test h run)
 
 -- an improper entry in the run pairs with nothing: the count is that of the proper ones
 pub counted-proper : (rule : Rule) (given : Entry) (run : List Entry) → counted rule given (keep (λ (e : Entry). properOf (e .span)) run) ≡ counted rule given run
-counted-proper rule given run =
-    ap (λ (l : List Entry). answered given (length l)) (keep-keep (pairs rule given) (λ (e : Entry). properOf (e .span)) (λ e h. pairs-improper rule given e h) run)
+counted-proper rule given run = counted-passing rule given run (λ e. properOf (e .span)) (λ e. pairs-proper rule given e)
+
+-- nor does one of a key that the rule does not allow
+pub counted-allowed : (rule : Rule) (given : Entry) (run : List Entry) → counted rule given (keep (λ (e : Entry). allows rule (e .key)) run) ≡ counted rule given run
+counted-allowed rule given run = counted-passing rule given run (λ e. allows rule (e .key)) (λ e h. pairs-allows rule e given (pairs-comm rule e given ∙ h))
+
+-- and where the given key is such a one, none is counted
+pub counted-none : (rule : Rule) (given : Entry) (run : List Entry) → allows rule (given .key) ≡ false → counted rule given run ≡ answered given 0
+counted-none rule given run barred =
+    let none : (e : Entry) → pairs rule given e ≡ false = λ e. bool-ext (pairs rule given e) false (λ h. sym barred ∙ pairs-allows rule given e h) (λ f. absurd (false≢true f)) in
+    ap (λ (l : List Entry). answered given (length l)) (keep-none (pairs rule given) run (all-any (λ (e : Entry). pairs rule given e ≡ false) none run))
 
 -- it is the same whichever journal the run is of
 pub counted-comm : (rule : Rule) (given : Entry) (run : List Entry) → counted rule given run ≡ answered given (length (keep (λ (e : Entry). pairs rule e given) run))

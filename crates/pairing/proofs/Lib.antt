@@ -1,3 +1,4 @@
+pub mod Circle
 pub mod Pairs
 pub mod Numbers
 pub mod Plain

@@ -15,9 +15,10 @@ use Rattle.pairing.specs.declared.Numbered.{Numbered}
 use Rattle.pairing.specs.declared.Pair.{Pair}
 use Rattle.pairing.specs.declared.Rule.{Rule}
 use Rattle.pairing.specs.declared.Rule.the-variants.{Equal, Near, Every}
-use Rattle.pairing.specs.Rule.{distance, fits}
+use Rattle.pairing.specs.Rule.{allows, fits}
 use Rattle.pairing.specs.Pair.{pairs, partnerOf, pairOf, comesBefore}
 use Rattle.pairing.specs.Plain.{matchAt}
+use Rattle.pairing.proofs.Circle.{distance-comm}
 
 -- ---- the pairing test
 
@@ -41,10 +42,10 @@ module _ (rule : Rule) (a b : Entry) where
   pub pairs-ended-b : b .span .end ≤ a .span .start → pairs rule a b ≡ false
   pairs-ended-b h = pairs-apart (ap properOf (meeting-comm (a .span) (b .span)) ∙ meeting-ended (b .span) (a .span) h)
 
-  -- an improper entry pairs with nothing
-  pub pairs-improper : properOf (b .span) ≡ false → pairs rule a b ≡ false
+  -- entries that pair are proper
+  pub pairs-proper : pairs rule a b ≡ true → properOf (b .span) ≡ true
   unfolding pairs
-  pairs-improper h = rw (h, and-false (properOf (a .span)))
+  pairs-proper h = and-left (properOf (b .span)) _ (and-right (properOf (a .span)) _ h)
 
   -- at an instant of their meeting, to pair is to hold then and to match
   pub pairs-at : (t : ℕ) → pairs rule a b && holdsAt t met ≡ matchAt t rule a b
@@ -71,23 +72,34 @@ module _ (rule : Rule) (a b : Entry) where
             at-met,
           )
 
+exchanged : (x y z : Bool) → x && (y && z) ≡ y && (x && z)
+exchanged true y z = refl
+exchanged false true z = refl
+exchanged false false z = refl
+
+-- keys that fit are keys that the rule allows, so entries that pair have such keys
+fits-allows : (rule : Rule) (key other : ℕ) → fits rule key other ≡ true → allows rule key ≡ true
+unfolding allows fits
+fits-allows Equal key other h = refl
+fits-allows (Near width) key other h = and-left (allows (Near width) key) _ h
+fits-allows Every key other h = refl
+
+pub pairs-allows : (rule : Rule) (a b : Entry) → pairs rule a b ≡ true → allows rule (a .key) ≡ true
+pairs-allows rule a b h =
+    fits-allows rule (a .key) (b .key) (and-right (properOf (meetingOf (a .span) (b .span))) (fits rule (a .key) (b .key)) (pairs-meeting-and-fits rule a b h))
+
 -- to pair is the same either way round
 fits-comm : (rule : Rule) (key other : ℕ) → fits rule key other ≡ fits rule other key
-unfolding fits distance
+unfolding fits
 fits-comm Equal key other = bool-ext (eqb key other) (eqb other key) (λ e. eq-eqb other key (sym (eqb-true key other e))) (λ e. eq-eqb key other (sym (eqb-true other key e)))
 fits-comm (Near width) key other =
-    let e : max key other - min key other ≡ max other key - min other key = omega arith in
-    ap (λ (n : ℕ). leb n width) e
+    ap (λ (n : ℕ). allows (Near width) key && (allows (Near width) other && leb n width)) (distance-comm key other)
+    ∙ exchanged (allows (Near width) key) (allows (Near width) other) _
 fits-comm Every key other = refl
 
 pub pairs-comm : (rule : Rule) (a b : Entry) → pairs rule a b ≡ pairs rule b a
 unfolding pairs
-pairs-comm rule a b = rw (meeting-comm (a .span) (b .span), fits-comm rule (a .key) (b .key)) (turn (properOf (a .span)) (properOf (b .span)) _)
-  where
-    turn : (x y z : Bool) → x && (y && z) ≡ y && (x && z)
-    turn true y z = refl
-    turn false true z = refl
-    turn false false z = refl
+pairs-comm rule a b = rw (meeting-comm (a .span) (b .span), fits-comm rule (a .key) (b .key)) (exchanged (properOf (a .span)) (properOf (b .span)) _)
 
 -- ---- the pair
 

@@ -1,12 +1,16 @@
 -- The contract of each public function allows one result.
 use Rattle.unique.specs.Unique.{OneResult}
 use Rattle.unique.proofs.Equation.{one-by-equation}
+use Rattle.pairing.proofs.Rule.allows.Reads as allows
 use Rattle.pairing.proofs.Rule.fits.Reads as fits
 use Rattle.pairing.proofs.Rule.pairs.Reads as pairs
 use Rattle.pairing.proofs.Numbered.partner.Reads as partner
 use Rattle.pairing.proofs.Pair.of.Reads as of
 use Rattle.pairing.proofs.Pair.comes_before.Reads as comes-before
 use Rattle.pairing.proofs.Side.pair.Reads as pair
+
+one-allows : OneResult allows.Post
+one-allows = one-by-equation _ _
 
 one-fits : OneResult fits.Post
 one-fits = one-by-equation _ _

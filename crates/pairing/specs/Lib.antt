@@ -1,4 +1,5 @@
 pub mod Rule
+pub mod Circle
 pub mod Pair
 pub mod Numbers
 pub mod Plain

@@ -2,7 +2,8 @@
 use interval::Interval;
 ghost use mathlib.Core.Path.{_≡_};
 ghost use Rattle.pairing.specs.Pair.{pairs, partnerOf, pairOf, comesBefore};
-ghost use Rattle.pairing.specs.Rule.{distance, fits};
+ghost use Prim.Native.Nat.{_<_};
+ghost use Rattle.pairing.specs.Rule.{wholeTurn, difference, distance, allows, fits};
 ghost use Rattle.pairing.specs.Side.{pairFrom};
 
 // What a journal says from the start of the span up to its end.
@@ -46,9 +47,9 @@ pub struct Pair {
     pub b: Partner,
 }
 
-// The larger key less the smaller: a difference taken the other way round would wrap.
-fn apart(key: u32, other: u32) -> u32
-    ensures { λ r. ⌜ r ≡ distance key other ⌝ }
+// The larger key less the smaller: taken the other way round it would wrap.
+fn difference(key: u32, other: u32) -> u32
+    ensures { λ r. ⌜ r ≡ difference key other ⌝ }
 {
     if key < other {
         other - key
@@ -57,14 +58,49 @@ fn apart(key: u32, other: u32) -> u32
     }
 }
 
+// The distance of two angles: the smaller of the two ways round.
+fn apart(key: u32, other: u32) -> u32
+    requires { ⌜ (key < wholeTurn) × (other < wholeTurn) ⌝ }
+    ensures { λ r. ⌜ r ≡ distance key other ⌝ }
+{
+    let one_way = difference(key, other);
+    let other_way = Rule::WHOLE_TURN - one_way;
+    if one_way < other_way {
+        one_way
+    } else {
+        other_way
+    }
+}
+
+// Is the distance of two keys at most the width? Keys that are no angles are not near, whatever the width.
+fn near(width: u32, key: u32, other: u32) -> bool
+    ensures { λ r. ⌜ r ≡ fits (Rule.Near width) key other ⌝ }
+{
+    key < Rule::WHOLE_TURN && (other < Rule::WHOLE_TURN && apart(key, other) <= width)
+}
+
 impl Rule {
+    // A near key is an angle in hundredths of a degree: so many are a whole turn.
+    pub const WHOLE_TURN: u32 = 36_000;
+
+    // Does the rule allow a key? Near allows angles, the others any key.
+    pub fn allows(self, key: u32) -> bool
+        ensures { λ r. ⌜ r ≡ allows self key ⌝ }
+    {
+        match self {
+            Rule::Equal => true,
+            Rule::Near(_) => key < Rule::WHOLE_TURN,
+            Rule::Every => true,
+        }
+    }
+
     // Does the rule hold for the keys of an A and a B entry?
     pub fn fits(self, a_key: u32, b_key: u32) -> bool
         ensures { λ r. ⌜ r ≡ fits self «a_key» «b_key» ⌝ }
     {
         match self {
             Rule::Equal => a_key == b_key,
-            Rule::Near(width) => apart(a_key, b_key) <= width,
+            Rule::Near(width) => near(width, a_key, b_key),
             Rule::Every => true,
         }
     }

@@ -35,3 +35,6 @@ pub const KIND: u32 = 11;
 
 // Lent buffer shorter than the record.
 pub const BUFFER: u32 = 12;
+
+// Near rule and key not below 36,000.
+pub const NO_ANGLE: u32 = 13;

@@ -1,4 +1,4 @@
-// Runs the calls of the twelve examples of document 01 on the compiled code, each from a fresh join, and prints the answer to each call and what is held after it. A refusal is printed as its number, a pair as its meeting and its A and B ordinals, a key where it is not 1.
+// Runs the calls of the twelve examples of document 01, with what P2 adds to the eleventh, on the compiled code, each from a fresh join, and prints the answer to each call and what is held after it. A refusal is printed as its number, a pair as its meeting and its A and B ordinals, a key where it is not 1.
 use interval::Interval;
 use join::Join;
 use join::Took;
@@ -33,7 +33,7 @@ const PAIR: u32 = 7;
 // How many entries area A holds.
 const AREA: u32 = 8;
 
-const LINES: usize = 62;
+const LINES: usize = 88;
 
 const TABLE: [[u32; 6]; LINES] = [
     [EXAMPLE, 1, 0, 0, 0, 0],
@@ -92,6 +92,32 @@ const TABLE: [[u32; 6]; LINES] = [
     [EXAMPLE, 11, 2, 0, 0, 0],
     [ENTRY, A, 10, 20, 5, 0],
     [ENTRY, B, 10, 20, 8, 0],
+    [WAITING, 0, 0, 0, 0, 0],
+    [EXAMPLE, 11, 2, 0, 0, 0],
+    [ENTRY, A, 10, 20, 35999, 0],
+    [ENTRY, B, 10, 20, 1, 0],
+    [WAITING, 0, 0, 0, 0, 0],
+    [EXAMPLE, 11, 2, 0, 0, 0],
+    [ENTRY, A, 10, 20, 35999, 0],
+    [ENTRY, B, 10, 20, 2, 0],
+    [WAITING, 0, 0, 0, 0, 0],
+    [EXAMPLE, 11, 2, 0, 0, 0],
+    [ENTRY, A, 10, 20, 36000, 0],
+    [EXAMPLE, 11, 18000, 0, 0, 0],
+    [ENTRY, A, 10, 20, 0, 0],
+    [ENTRY, B, 10, 20, 18000, 0],
+    [WAITING, 0, 0, 0, 0, 0],
+    [EXAMPLE, 11, 18000, 0, 0, 0],
+    [ENTRY, A, 10, 20, 18000, 0],
+    [ENTRY, B, 10, 20, 0, 0],
+    [WAITING, 0, 0, 0, 0, 0],
+    [EXAMPLE, 11, 17999, 0, 0, 0],
+    [ENTRY, A, 10, 20, 0, 0],
+    [ENTRY, B, 10, 20, 18000, 0],
+    [WAITING, 0, 0, 0, 0, 0],
+    [EXAMPLE, 11, 17999, 0, 0, 0],
+    [ENTRY, A, 10, 20, 18000, 0],
+    [ENTRY, B, 10, 20, 0, 0],
     [WAITING, 0, 0, 0, 0, 0],
     [EXAMPLE, 12, 0, 0, 0, 0],
     [TAKE, 0, 0, 0, 0, 0],
@@ -354,7 +380,7 @@ fn call(
 }
 
 fn line_at(i: usize) -> [u32; 6]
-    requires { ⌜ i < 62 ⌝ }
+    requires { ⌜ i < 88 ⌝ }
 {
     TABLE[i]
 }

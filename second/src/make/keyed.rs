@@ -2,9 +2,14 @@
 
 use crate::chance::Chance;
 use crate::records::{reading, writing, Reading, Record};
-use crate::rules::{Entry, Rule};
+use crate::rules::{Entry, Rule, TURN};
 
-const WIDTHS: [u32; 12] = [
+/// No two keys on the circle are farther apart.
+const HALF_TURN: u32 = TURN / 2;
+
+/// 8,999 is the largest that leaves room for two stretches of keys that are not
+/// near each other. From half a turn on all keys on the circle are near.
+const WIDTHS: [u32; 13] = [
     0,
     1,
     2,
@@ -12,10 +17,11 @@ const WIDTHS: [u32; 12] = [
     5,
     8,
     100,
-    65_536,
-    0x7FFF_FFFF,
-    0x8000_0000,
-    u32::MAX - 1,
+    8_999,
+    HALF_TURN - 1,
+    HALF_TURN,
+    TURN - 1,
+    TURN,
     u32::MAX,
 ];
 
@@ -46,7 +52,7 @@ pub fn keyed(feed: Vec<u8>, rule: Rule, exact: bool, chance: &mut Chance) -> Vec
     }
 }
 
-fn with_keys(mut feed: Vec<u8>, mut key_for: impl FnMut(u32) -> u32) -> Vec<u8> {
+pub fn with_keys(mut feed: Vec<u8>, mut key_for: impl FnMut(u32) -> u32) -> Vec<u8> {
     let mut place = 0;
     while let Reading::Record(record, next) = reading(&feed, place) {
         if let Record::Entry(stream, entry) = record {
@@ -59,8 +65,9 @@ fn with_keys(mut feed: Vec<u8>, mut key_for: impl FnMut(u32) -> u32) -> Vec<u8> 
     feed
 }
 
-/// Keys that lie within a width of each other, at it and just beyond it. Each
-/// key of the feed gets a stretch of them.
+/// Keys on the circle that lie within a width of each other, at it and just
+/// beyond it, often across the seam, where 35,999 and 0 are neighbours. Each key
+/// of the feed gets a stretch of them.
 struct NearKeys {
     width: u32,
     /// Where the first stretch begins, and how far from one to the next.
@@ -68,8 +75,6 @@ struct NearKeys {
     step: u64,
     /// Whether all keys of a stretch are near each other.
     exact: bool,
-    /// Whether they stand at the upper end of the numbers, in descending order.
-    from_above: bool,
     /// The keys of the feed so far.
     replaced: Vec<u32>,
 }
@@ -80,16 +85,15 @@ impl NearKeys {
     fn about(width: u32, exact: bool, chance: &mut Chance) -> NearKeys {
         let wide = u64::from(width);
         let apart = 2 * wide + 1;
-        let any = chance.pick(&[apart, wide + 1, wide]);
+        let any = chance.pick(&[apart, wide + 1, wide, HALF_TURN.into()]);
+        // A stretch that begins at most a width before the seam lies across it.
+        let across = TURN - chance.between(1, width.max(1)) % TURN;
+        let first = chance.pick(&[0, 5, HALF_TURN, TURN - 1, across, across]);
         NearKeys {
             width,
-            // A key at the width must be a key.
-            first: chance
-                .pick(&[0, 0, 5, 1000])
-                .min(u64::from(u32::MAX - width)),
+            first: first.into(),
             step: if exact { apart } else { any },
             exact,
-            from_above: chance.one_in(3),
             replaced: Vec::new(),
         }
     }
@@ -100,12 +104,8 @@ impl NearKeys {
         let at = u64::from(self.width);
         let beyond = if self.exact { at } else { at + 1 };
         let offset = chance.pick(&[0, 0, within, at, beyond]);
-        let near = (self.first + number * self.step + offset).min(u32::MAX.into()) as u32;
-        if self.from_above {
-            u32::MAX - near
-        } else {
-            near
-        }
+        let near = self.first + number * self.step + offset;
+        (near % u64::from(TURN)) as u32
     }
 
     fn stretch_of(&mut self, key: u32) -> usize {
@@ -114,5 +114,29 @@ impl NearKeys {
             self.replaced.push(key);
             self.replaced.len() - 1
         })
+    }
+}
+
+#[cfg(test)]
+mod tests {
+    use super::*;
+
+    #[test]
+    fn exact_keys_are_near_where_those_of_the_feed_are_equal() {
+        let mut chance = Chance::new(1);
+        // Two stretches have room.
+        for width in WIDTHS.into_iter().filter(|width| *width <= 8_999) {
+            for _ in 0..20 {
+                let mut keys = NearKeys::about(width, true, &mut chance);
+                let stretches = [1, 2].map(|key| [(); 20].map(|()| keys.key_for(key, &mut chance)));
+                for (a, b) in [(0, 0), (0, 1), (1, 0), (1, 1)] {
+                    for a_key in stretches[a] {
+                        for b_key in stretches[b] {
+                            assert_eq!(Rule::Near(width).holds(a_key, b_key), a == b);
+                        }
+                    }
+                }
+            }
+        }
     }
 }

@@ -34,12 +34,14 @@ pub fn example_of_the_document() -> Vec<u8> {
     draft.bytes
 }
 
-/// Its eleventh bench example: near, width 2.
+/// Its eleventh bench example, with the keys that document 02 adds: near, width 2.
 pub fn example_11() -> Vec<u8> {
     let mut draft = Draft::new();
     draft.entry(A, (0, 9), 5, 0);
     draft.entry(B, (0, 9), 7, 1);
     draft.entry(B, (0, 9), 8, 2);
+    draft.entry(A, (0, 9), 35_999, 3);
+    draft.entry(B, (0, 9), 1, 4);
     draft.close(A);
     draft.close(B);
     draft.bytes

@@ -5,10 +5,10 @@ use Rattle.twelve_run.proofs.main.Statement.{statement}
 use Rattle.twelve_run.proofs.main.Tie as tie
 
 abbrev Inv-loop : tie.InvT-loop
-Inv-loop a₀ b₀ rows₀ join₀ i₀ t7 t8 a b rows join i = i ≤ 62
+Inv-loop a₀ b₀ rows₀ join₀ i₀ t7 t8 a b rows join i = i ≤ 88
 
 abbrev μ-loop : tie.MeasureT-loop
-μ-loop a₀ b₀ rows₀ join₀ i₀ t7 t8 a b rows join i = 62 - i
+μ-loop a₀ b₀ rows₀ join₀ i₀ t7 t8 a b rows join i = 88 - i
 
 no-places-requires : tie.Need-no-places-requires Inv-loop μ-loop
 no-places-requires c κs = search needs

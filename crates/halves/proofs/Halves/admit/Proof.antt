@@ -1,10 +1,9 @@
 -- `admit` meets its contract: each step leaves what the definition says of its part.
 use borrow.Author.Needs.{needs}
 use native.Mathlib.Omega.{arith}
-use Rattle.journal.proofs.Facts.{own-met}
 use Rattle.halves.specs.View.{seen}
 use Rattle.halves.specs.Calls.{arrival}
-use Rattle.halves.proofs.Facts.{room-met}
+use Rattle.halves.proofs.Facts.{first-met, room-met}
 use Rattle.halves.proofs.Laws.{formed-ascending, admitted}
 use Rattle.halves.proofs.View.{mine-length, waiting-length}
 use Rattle.halves.proofs.Halves.admit.Statement.{statement}
@@ -38,7 +37,7 @@ hold-wanted-requires c κs =
 with-requires : tie.Need-with-requires
 with-requires c κs =
     let st = c .before .before .before .before .before .before .before .before .before .before .before .before in
-    own-met (st .args .self .own .journal) (st .args .e) (st .pre .1 .0) .countable
+    first-met (st .args .self .rule) (st .args .self .own .journal) (st .args .e) (st .pre .1 .0) .own .countable
 
 returns : tie.Need-returns
 returns c =

@@ -6,12 +6,12 @@ use Rattle.journal.specs.Answer.{firstOf}
 use Rattle.area.proofs.Laws.{holds-length}
 use Rattle.halves.specs.View.{seen}
 use Rattle.halves.specs.Calls.{afterEntry}
-use Rattle.halves.proofs.Laws.{answer-own, answer-room, partners-formed, partners-placed, room-counted, left-refused, left-accepted}
+use Rattle.halves.proofs.Laws.{answer-first, answer-room, partners-formed, partners-placed, room-counted, left-refused, left-accepted}
 use Rattle.halves.proofs.Halves.enter.Statement.{statement}
 use Rattle.halves.proofs.Halves.enter.Tie as tie
 
-own-answer-requires : tie.Need-own-answer-requires
-own-answer-requires c κs = search needs
+first-answer-requires : tie.Need-first-answer-requires
+first-answer-requires c κs = search needs
 
 enum-told : tie.Need-enum-told
 enum-told c = search needs
@@ -25,8 +25,8 @@ returns c =
     let st = asked .before .before in
     let v = seen (st .args .self) (st .args .mine .now) (st .args .others .now) (st .args .rows .now) in
     let refused = c .enum-told2 .given .1 in (
-      answer-own (st .args .side) v (st .args .e) (asked .own-answer .result) _ (asked .own-answer .ensures) refused,
-      left-refused (st .args .self) (st .args .mine .now) (st .args .others .now) (st .args .rows .now) (st .pre .holds-mine) (st .pre .holds-others) (st .pre .holds-rows) (afterEntry (st .args .side) v (st .args .e)) (asked .own-answer .result) _ refused,
+      answer-first (st .args .side) v (st .args .e) (asked .first-answer .result) _ (asked .first-answer .ensures) refused,
+      left-refused (st .args .self) (st .args .mine .now) (st .args .others .now) (st .args .rows .now) (st .pre .holds-mine) (st .pre .holds-others) (st .pre .holds-rows) (afterEntry (st .args .side) v (st .args .e)) (asked .first-answer .result) _ refused,
     )
 
 partners-requires : tie.Need-partners-requires
@@ -55,7 +55,7 @@ returns-2 c =
     let v = seen (st .args .self) (st .args .mine .now) (st .args .others .now) (st .args .rows .now) in
     let new = partners-formed (st .args .self) (st .args .mine .now) (st .args .others .now) (st .args .rows .now) (st .pre) (st .args .side) (st .args .e) _ (counted .partners .ensures) in
     let room = room-counted (st .args .self) (st .args .mine .now) (st .args .others .now) (st .args .rows .now) (st .pre) (st .args .side) (st .args .e) _ new in (
-      answer-room (st .args .side) v (st .args .e) (judged .room-answer .result) (sym (asked .own-answer .ensures) ∙ told .enum-told .given .1) (judged .room-answer .ensures ∙ ap firstOf room),
+      answer-room (st .args .side) v (st .args .e) (judged .room-answer .result) (sym (asked .first-answer .ensures) ∙ told .enum-told .given .1) (judged .room-answer .ensures ∙ ap firstOf room),
       left-refused (st .args .self) (st .args .mine .now) (st .args .others .now) (st .args .rows .now) (st .pre .holds-mine) (st .pre .holds-others) (st .pre .holds-rows) (afterEntry (st .args .side) v (st .args .e)) (judged .room-answer .result) _ (c .enum-told4 .given .1),
     )
 
@@ -69,7 +69,7 @@ admit-requires c κs =
     let st = asked .before .before in
     let new = partners-formed (st .args .self) (st .args .mine .now) (st .args .others .now) (st .args .rows .now) (st .pre) (st .args .side) (st .args .e) _ (counted .partners .ensures) in
     let room = room-counted (st .args .self) (st .args .mine .now) (st .args .others .now) (st .args .rows .now) (st .pre) (st .args .side) (st .args .e) _ new in
-    (st .pre, (sym (asked .own-answer .ensures) ∙ told .enum-told .given .1, sym (judged .room-answer .ensures ∙ ap firstOf room) ∙ passed .enum-told3 .given .1, new))
+    (st .pre, (sym (asked .first-answer .ensures) ∙ told .enum-told .given .1, sym (judged .room-answer .ensures ∙ ap firstOf room) ∙ passed .enum-told3 .given .1, new))
 
 returns-3 : tie.Need-returns-3
 returns-3 c =
@@ -82,7 +82,7 @@ returns-3 c =
     let v = seen (st .args .self) (st .args .mine .now) (st .args .others .now) (st .args .rows .now) in
     let new = partners-formed (st .args .self) (st .args .mine .now) (st .args .others .now) (st .args .rows .now) (st .pre) (st .args .side) (st .args .e) _ (counted .partners .ensures) in
     let room = room-counted (st .args .self) (st .args .mine .now) (st .args .others .now) (st .args .rows .now) (st .pre) (st .args .side) (st .args .e) _ new in (
-      answer-room (st .args .side) v (st .args .e) (judged .room-answer .result) (sym (asked .own-answer .ensures) ∙ told .enum-told .given .1) (judged .room-answer .ensures ∙ ap firstOf room),
+      answer-room (st .args .side) v (st .args .e) (judged .room-answer .result) (sym (asked .first-answer .ensures) ∙ told .enum-told .given .1) (judged .room-answer .ensures ∙ ap firstOf room),
       left-accepted v (afterEntry (st .args .side) v (st .args .e)) (judged .room-answer .result) (passed .enum-told3 .given .1) (c .admit .result) _ _ _ (c .admit .ensures),
     )
 
@@ -90,7 +90,7 @@ pub enter-spec : {M : Type 1} → statement M
 enter-spec =
     tie.close
     (tie.spec
-    own-answer-requires
+    first-answer-requires
     enum-told
     enum-told-2
     returns
