@@ -85,8 +85,9 @@ fn squeeze(rows: &mut Places, n: usize, gate: Gate) -> usize
     while i < n {
         let row = rows[i];
         let x = entry_in(row);
+        // Moved first and counted if wanted: what is not is written over by the next, or blanked at the end.
+        rows[kept] = row;
         if gate.wants(x.entry) {
-            rows[kept] = row;
             kept += 1;
         }
         i += 1;

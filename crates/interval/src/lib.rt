@@ -9,13 +9,15 @@ pub struct Interval {
     pub end: u32,
 }
 
-fn larger(a: u32, b: u32) -> u32
+// The larger of two numbers.
+pub fn larger(a: u32, b: u32) -> u32
     ensures { λ r. ⌜ r ≡ max a b ⌝ }
 {
     if a < b { b } else { a }
 }
 
-fn smaller(a: u32, b: u32) -> u32
+// The smaller of two numbers.
+pub fn smaller(a: u32, b: u32) -> u32
     ensures { λ r. ⌜ r ≡ min a b ⌝ }
 {
     if a < b { a } else { b }

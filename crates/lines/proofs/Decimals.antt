@@ -7,7 +7,7 @@ use mathlib.Core.List.{List, [], _∷_, _++_}
 use mathlib.Core.Path.{_≡_, refl, sym, ap, _∙_}
 use lib.Dec.{ltb, lit<}
 use lib.ListN.{length, length-append}
-use borrow.Author.Tests.{ltb-false, le-ltb}
+use borrow.Author.Tests.{ltb-true, ltb-false, le-ltb}
 use Rattle.lines.specs.Decimal.{lastDigit, decimalIn, decimal}
 
 length-more : (ds : List ℕ) (d : ℕ) → length (ds ++ (d ∷ [])) ≡ suc (length ds)
@@ -75,3 +75,16 @@ decimal-few n (suc k) h some = decimal-in-few 20 k n h
 pub decimal-many : (n k : ℕ) → k < 20 → 10 ^ k ≤ n → k < length (decimal n)
 unfolding decimal
 decimal-many n k less h = decimal-in-many 20 k n less h
+
+decimal-in-below : (m n : ℕ) → n < 10 ^ m → n < 10 ^ length (decimalIn m n)
+decimal-in-below zero n h = h
+decimal-in-below (suc m) n h = go (ltb n 10) refl (decimal-in-below m (n / 10) (div-lt-iff-lt-mul (lit< tt) .1 (rw pow-suc at h)))
+  where
+    go : (small : Bool) → ltb n 10 ≡ small → n / 10 < 10 ^ length (decimalIn m (n / 10)) → n < 10 ^ length (cond small [] (decimalIn m (n / 10)) ++ (lastDigit n ∷ []))
+    go true e less = ltb-true n 10 e
+    go false e less = rw (length-more (decimalIn m (n / 10)) (lastDigit n), pow-suc) (div-lt-iff-lt-mul (lit< tt) .0 less)
+
+-- a number is below ten to the power of its digits, if 20 are enough
+pub decimal-below : (n : ℕ) → n < 10 ^ 20 → n < 10 ^ length (decimal n)
+unfolding decimal
+decimal-below n h = decimal-in-below 20 n h

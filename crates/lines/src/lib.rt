@@ -57,7 +57,7 @@ pub fn put_number(out: &mut [u8], at: usize, n: u64, after: u8) -> usize
         rest /= 100;
     }
     if at < i {
-        out[at] = 48 + (rest % 10) as u8;
+        out[at] = 48 + rest as u8;
     }
     end + 1
 }

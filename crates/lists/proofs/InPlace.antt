@@ -7,7 +7,7 @@ use mathlib.Core.Bool.{Bool, true, false}
 use mathlib.Core.List.{List, [], _∷_, _++_, append-assoc}
 use mathlib.Core.Path.{_≡_, sym, ap, _∙_}
 use lib.ListN.{length, replicate, take, drop, set, getD, length-append, length-replicate, length-take, length-drop, take-append-drop, replicate-append-replicate}
-use lib.Seq.{slice, length-slice, drop-cons, getD-drop, getD-append-add, set-at, take-at, drop-at, take-suc-set, drop-set-lt, drop-drop, drop-append-add}
+use lib.Seq.{slice, length-slice, drop-cons, getD-drop, getD-append-add, set-at, take-at, drop-at, take-set-le, take-suc-set, drop-set-lt, drop-drop, drop-append-add}
 use Rattle.lists.specs.Keep.{keep}
 use Rattle.lists.specs.Store.{padTo}
 use Rattle.lists.proofs.Judge.{slice-more}
@@ -41,21 +41,21 @@ module _ {A : Type 0} (p : A → Bool) (l₀ l : List A) (i at : ℕ) (d : A) (i
   same =
       ap (λ (m : ℕ). getD l m d) (sym (add-zero i)) ∙ sym (getD-drop i l 0 d) ∙ ap (λ (t : List A). getD t 0 d) back ∙ getD-drop i l₀ 0 d ∙ ap (λ (m : ℕ). getD l₀ m d) (add-zero i)
 
-  next : drop (i + 1) l ≡ drop (i + 1) l₀
-  next = sym (drop-drop 1 i l) ∙ ap (drop 1) back ∙ drop-drop 1 i l₀
+  -- each is moved, and counted if it passes
+  pub squeeze-kept : p (getD l i d) ≡ true → take (at + 1) (set l at (getD l i d)) ≡ keep p (take (i + 1) l₀)
+  squeeze-kept e =
+      ap (λ (m : ℕ). take m (set l at (getD l i d))) (add-one at)
+      ∙ take-suc-set l at (getD l i d) (omega arith)
+      ∙ ap (λ (t : List A). t ++ (getD l i d ∷ [])) front
+      ∙ ap (λ (x : A). keep p (take i l₀) ++ (x ∷ [])) same
+      ∙ sym (keep-more p l₀ i d inside₀ (ap p (sym same) ∙ e))
 
-  pub squeeze-kept : p (getD l i d) ≡ true → (take (at + 1) (set l at (getD l i d)) ≡ keep p (take (i + 1) l₀)) × (drop (i + 1) (set l at (getD l i d)) ≡ drop (i + 1) l₀)
-  squeeze-kept e = (
-    ap (λ (m : ℕ). take m (set l at (getD l i d))) (add-one at)
-        ∙ take-suc-set l at (getD l i d) (omega arith)
-        ∙ ap (λ (t : List A). t ++ (getD l i d ∷ [])) front
-        ∙ ap (λ (x : A). keep p (take i l₀) ++ (x ∷ [])) same
-        ∙ sym (keep-more p l₀ i d inside₀ (ap p (sym same) ∙ e)),
-    drop-set-lt (i + 1) l at (getD l i d) (omega arith) ∙ next,
-  )
+  pub squeeze-left : p (getD l i d) ≡ false → take at (set l at (getD l i d)) ≡ keep p (take (i + 1) l₀)
+  squeeze-left e = take-set-le at l at (getD l i d) (omega arith) ∙ front ∙ sym (keep-same p l₀ i d inside₀ (ap p (sym same) ∙ e))
 
-  pub squeeze-left : p (getD l i d) ≡ false → (take at l ≡ keep p (take (i + 1) l₀)) × (drop (i + 1) l ≡ drop (i + 1) l₀)
-  squeeze-left e = (front ∙ sym (keep-same p l₀ i d inside₀ (ap p (sym same) ∙ e)), next)
+  -- those that are still to be looked at stay
+  pub squeeze-next : drop (i + 1) (set l at (getD l i d)) ≡ drop (i + 1) l₀
+  squeeze-next = drop-set-lt (i + 1) l at (getD l i d) (omega arith) ∙ sym (drop-drop 1 i l) ∙ ap (drop 1) back ∙ drop-drop 1 i l₀
 
 -- some elements, with z in the places up to n and beyond, are those elements padded
 pub padded-part : {A : Type 0} (k n gap : ℕ) (z : A) (xs rest : List A) → rest ≡ replicate (k - n) z → length xs + gap ≡ n → n ≤ k → xs ++ (replicate gap z ++ rest) ≡ padTo k z xs

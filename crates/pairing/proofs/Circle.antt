@@ -1,7 +1,10 @@
 -- The distance of near keys is that of angles on a circle.
-use Prim.Native.Nat.{ℕ, _+_, _-_, _*_, _%_, _<_, _≤_, min}
+use Prim.Native.Nat.{ℕ, _+_, _-_, _*_, _%_, _<_, _≤_, min, max}
 use native.Mathlib.Omega.{arith}
-use mathlib.Core.Path.{_≡_, sym, ap, _∙_}
+use mathlib.Core.Bool.{Bool, true, false, _&&_}
+use mathlib.Core.Path.{_≡_, refl, sym, ap, _∙_}
+use lib.Dec.{ltb}
+use borrow.Author.Tests.{ltb-true}
 use Rattle.lists.proofs.Order.{Compared, less, equal, more, compared}
 use Rattle.pairing.specs.Rule.{wholeTurn, difference, distance}
 use Rattle.pairing.specs.Circle.{turnedBy, Circle}
@@ -31,6 +34,15 @@ distance-self key = omega arith
 distance-zero : (key other : ℕ) → key < wholeTurn → other < wholeTurn → distance key other ≡ 0 → key ≡ other
 unfolding difference distance
 distance-zero key other k o e = omega arith
+
+-- keys are angles where the larger of them is
+pub past-turn : (key other : ℕ) (near : Bool) → wholeTurn ≤ max key other → ltb key wholeTurn && (ltb other wholeTurn && near) ≡ false
+past-turn key other near h = go (ltb key wholeTurn) (ltb other wholeTurn) refl refl
+  where
+    go : (k o : Bool) → ltb key wholeTurn ≡ k → ltb other wholeTurn ≡ o → k && (o && near) ≡ false
+    go false o e f = refl
+    go true false e f = refl
+    go true true e f = absurd (omega (arith, ltb-true key wholeTurn e, ltb-true other wholeTurn f))
 
 -- ---- turning
 

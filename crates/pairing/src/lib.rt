@@ -1,5 +1,7 @@
 // Entries of the two journals, the rule that pairs them, and the pairs that they make.
 use interval::Interval;
+use interval::larger;
+use interval::smaller;
 ghost use mathlib.Core.Path.{_≡_};
 ghost use Rattle.pairing.specs.Pair.{pairs, partnerOf, pairOf, comesBefore};
 ghost use Prim.Native.Nat.{_<_};
@@ -51,11 +53,7 @@ pub struct Pair {
 fn difference(key: u32, other: u32) -> u32
     ensures { λ r. ⌜ r ≡ difference key other ⌝ }
 {
-    if key < other {
-        other - key
-    } else {
-        key - other
-    }
+    larger(key, other) - smaller(key, other)
 }
 
 // The distance of two angles: the smaller of the two ways round.
@@ -65,18 +63,14 @@ fn apart(key: u32, other: u32) -> u32
 {
     let one_way = difference(key, other);
     let other_way = Rule::WHOLE_TURN - one_way;
-    if one_way < other_way {
-        one_way
-    } else {
-        other_way
-    }
+    smaller(one_way, other_way)
 }
 
-// Is the distance of two keys at most the width? Keys that are no angles are not near, whatever the width.
+// Is the distance of two keys at most the width? Keys are angles where the larger of them is; any others are not near, whatever the width.
 fn near(width: u32, key: u32, other: u32) -> bool
     ensures { λ r. ⌜ r ≡ fits (Rule.Near width) key other ⌝ }
 {
-    key < Rule::WHOLE_TURN && (other < Rule::WHOLE_TURN && apart(key, other) <= width)
+    larger(key, other) < Rule::WHOLE_TURN && apart(key, other) <= width
 }
 
 impl Rule {

@@ -2,12 +2,13 @@
 use borrow.Author.Needs.{needs}
 use Prim.Native.Nat.{ℕ, _≤_, _<_, _-_}
 use native.Mathlib.Omega.{arith}
+use mathlib.Core.Bool.{Bool}
 use mathlib.Core.List.{List, []}
 use mathlib.Core.Logic.{⊎-elim}
 use mathlib.Core.Path.{_≡_, refl, sym, ap, _∙_}
 use lib.ListN.{length, take, drop, length-set}
 use Rattle.lists.specs.Keep.{keep}
-use Rattle.lists.proofs.InPlace.{squeeze-kept, squeeze-left}
+use Rattle.lists.proofs.InPlace.{squeeze-kept, squeeze-left, squeeze-next}
 use Rattle.pairing.specs.declared.Numbered.{Numbered}
 use Rattle.journal.specs.Journal.{wanted}
 use Rattle.area.specs.Area.{heldIn, places}
@@ -37,14 +38,14 @@ element-copy-out-row c = search needs
 entry-in-requires : tie.Need-entry-in-requires Inv-loop μ-loop
 entry-in-requires c κs = search needs
 
-wants-requires : tie.Need-wants-requires Inv-loop μ-loop
-wants-requires c κs = search needs
-
 mul-row-2 : tie.Need-mul-row-2 Inv-loop μ-loop
 mul-row-2 c = search needs
 
 element-set-from-row : tie.Need-element-set-from-row Inv-loop μ-loop
 element-set-from-row c = search needs
+
+wants-requires : tie.Need-wants-requires Inv-loop μ-loop
+wants-requires c κs = search needs
 
 add-kept : tie.Need-add-kept Inv-loop μ-loop
 add-kept c = search needs
@@ -60,16 +61,18 @@ loop-again c =
     let s = c .before .before .before .before .before in
     let st = s .before in
     let l = s .loop .rows in
+    let test : List ℕ → Bool = λ row. wanted (st .args .gate) (heldIn row .entry) in
     let inside₀ : s .loop .i < length (st .args .rows .now) = omega arith in
     let inside : s .loop .i < length l = omega (arith, s .loop .inv .4) in
     let tested = sym (c .before .wants .ensures ∙ ap (λ (x : Numbered). wanted (st .args .gate) (x .entry)) (c .before .before .entry-in .ensures)) in
+    let next = squeeze-next test (st .args .rows .now) l (s .loop .i) (s .loop .kept) [] inside₀ inside (s .loop .inv .1) (s .loop .inv .2) (s .loop .inv .3) in
     ⊎-elim
     (λ w.
-    let e = squeeze-kept (λ (row : List ℕ). wanted (st .args .gate) (heldIn row .entry)) (st .args .rows .now) l (s .loop .i) (s .loop .kept) [] inside₀ inside (s .loop .inv .1) (s .loop .inv .2) (s .loop .inv .3) (tested ∙ w .0 .taken) in
-    rw (w .1, w .2) (omega arith, omega arith, e .0, e .1, length-set l (s .loop .kept) _ ∙ s .loop .inv .4))
+    let front = squeeze-kept test (st .args .rows .now) l (s .loop .i) (s .loop .kept) [] inside₀ inside (s .loop .inv .1) (s .loop .inv .2) (s .loop .inv .3) (tested ∙ w .0 .taken) in
+    rw (w .1) (omega arith, omega arith, front, next, length-set l (s .loop .kept) _ ∙ s .loop .inv .4))
     (λ w.
-    let e = squeeze-left (λ (row : List ℕ). wanted (st .args .gate) (heldIn row .entry)) (st .args .rows .now) l (s .loop .i) (s .loop .kept) [] inside₀ inside (s .loop .inv .1) (s .loop .inv .2) (s .loop .inv .3) (tested ∙ w .0 .left) in
-    rw (w .1, w .2) (omega arith, omega arith, e .0, e .1, s .loop .inv .4))
+    let front = squeeze-left test (st .args .rows .now) l (s .loop .i) (s .loop .kept) [] inside₀ inside (s .loop .inv .1) (s .loop .inv .2) (s .loop .inv .3) (tested ∙ w .0 .left) in
+    rw (w .1) (omega arith, omega arith, front, next, length-set l (s .loop .kept) _ ∙ s .loop .inv .4))
     (c .if1 .came)
 
 returns : tie.Need-returns Inv-loop μ-loop
@@ -93,9 +96,9 @@ squeeze-spec =
     mul-row
     element-copy-out-row
     entry-in-requires
-    wants-requires
     mul-row-2
     element-set-from-row
+    wants-requires
     add-kept
     add-i
     loop-less
