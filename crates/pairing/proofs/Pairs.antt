@@ -1,5 +1,5 @@
 -- Laws of the pairing test, of the pair and of the order of pairs. Nothing above this file looks into `fits`, `pairs`, `pairOf` or `comesBefore`.
-use Prim.Native.Nat.{ℕ, _-_, _<_, _≤_, min, max}
+use Prim.Native.Nat.{ℕ, _<_, _≤_}
 use native.Mathlib.Omega.{arith}
 use mathlib.Core.Bool.{Bool, true, false, _&&_, and-false, true≢false}
 use mathlib.Core.Path.{_≡_, refl, sym, ap, _∙_}

@@ -83,8 +83,8 @@ impl Rule {
     {
         match self {
             Rule::Equal => true,
-            Rule::Near(_) => key < Rule::WHOLE_TURN,
             Rule::Every => true,
+            Rule::Near(_) => key < Rule::WHOLE_TURN,
         }
     }
 
@@ -94,8 +94,8 @@ impl Rule {
     {
         match self {
             Rule::Equal => a_key == b_key,
-            Rule::Near(width) => near(width, a_key, b_key),
             Rule::Every => true,
+            Rule::Near(width) => near(width, a_key, b_key),
         }
     }
 
