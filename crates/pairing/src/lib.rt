@@ -3,8 +3,8 @@ use interval::Interval;
 use interval::larger;
 use interval::smaller;
 ghost use mathlib.Core.Path.{_≡_};
-ghost use Rattle.pairing.specs.Pair.{pairs, partnerOf, pairOf, comesBefore};
 ghost use Prim.Native.Nat.{_<_};
+ghost use Rattle.pairing.specs.Pair.{pairs, partnerOf, pairOf, comesBefore};
 ghost use Rattle.pairing.specs.Rule.{wholeTurn, difference, distance, allows, fits};
 ghost use Rattle.pairing.specs.Side.{pairFrom};
 
@@ -30,7 +30,7 @@ pub enum Side {
 // Which keys pair.
 pub enum Rule {
     Equal,
-    // At most this far apart.
+    // Angles at most this far apart, either way round.
     Near(u32),
     Every,
 }
