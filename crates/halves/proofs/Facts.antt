@@ -39,16 +39,10 @@ room-met side v e h =
     full true b k w = k
     full false b k w = absurd (false≢true w)
 
--- its journal alone does not refuse it, nor its key
-pub record FirstMet (rule : Rule) (j : Journal) (e : Entry) : Type 0 where
-  pub own : OwnMet j e
-  pub allowed : allows rule (e .key) ≡ true
-
-pub first-met : (rule : Rule) (j : Journal) (e : Entry) → firstOf (ownRows j e ++ keyRows rule e) ≡ Accepted → FirstMet rule j e
+-- the rule allows its key
+pub key-met : (rule : Rule) (e : Entry) → firstOf (keyRows rule e) ≡ Accepted → allows rule (e .key) ≡ true
 unfolding keyRows
-first-met rule j e h =
-    let both = accepted-both (ownRows j e) (keyRows rule e) h in
-    record { own = own-met j e (both .first); allowed = not-false (allows rule (e .key)) (accepted-rows (keyRows rule e) (both .then) .0) }
+key-met rule e h = not-false (allows rule (e .key)) (accepted-rows (keyRows rule e) h .0)
 
 pub record Admitted (side : Side) (v : View) (e : Entry) : Type 0 where
   pub own : OwnMet (v .own) e
@@ -59,8 +53,8 @@ pub entry-met : (side : Side) (v : View) (e : Entry) → firstOf (entryRows side
 unfolding entryRows
 entry-met side v e h =
     let both = accepted-both (ownRows (v .own) e ++ keyRows (v .rule) e) (roomRows side v e) h in
-    let first = first-met (v .rule) (v .own) e (both .first) in
-    record { own = first .own; allowed = first .allowed; room = room-met side v e (both .then) }
+    let alone = accepted-both (ownRows (v .own) e) (keyRows (v .rule) e) (both .first) in
+    record { own = own-met (v .own) e (alone .first); allowed = key-met (v .rule) e (alone .then); room = room-met side v e (both .then) }
 
 -- a close finds its journal open
 pub close-met : (j : Journal) → firstOf (closeRows j) ≡ Accepted → isClosed (j .gate) ≡ false

@@ -79,27 +79,23 @@ difference-to-0 : (key : ℕ) → difference key 0 ≡ key
 unfolding difference
 difference-to-0 key = omega arith
 
-difference-from-0 : (key : ℕ) → difference 0 key ≡ key
-unfolding difference
-difference-from-0 key = omega arith
-
-distance-over-0 : (key other : ℕ) → key < wholeTurn → other < wholeTurn → distance key other ≤ distance key 0 + distance 0 other
+distance-over-0 : (key other : ℕ) → key < wholeTurn → other < wholeTurn → distance key other ≤ distance key 0 + distance other 0
 unfolding difference distance
 distance-over-0 key other k o =
-    rw (difference-to-0 key, difference-from-0 other) (sides (difference key other) key other (omega arith) (omega arith) (omega arith) (omega arith))
+    rw (difference-to-0 key, difference-to-0 other) (sides (difference key other) key other (omega arith) (omega arith) (omega arith) (omega arith))
 
 -- the third angle is turned to 0
 distance-third : (key other third : ℕ) → key < wholeTurn → other < wholeTurn → third < wholeTurn → distance key other ≤ distance key third + distance third other
 distance-third key other third k o t =
     let by = wholeTurn - third in
     let zero : turnedBy by third ≡ 0 = omega arith in
-    let over = distance-over-0 (turnedBy by key) (turnedBy by other) (omega arith) (omega arith) in
+    let to-0 : (angle : ℕ) → angle < wholeTurn → distance angle third ≡ distance (turnedBy by angle) 0 = λ angle a. sym (distance-turned by angle third a t) ∙ ap (distance (turnedBy by angle)) zero in
     omega (
       arith,
-      over,
+      distance-over-0 (turnedBy by key) (turnedBy by other) (omega arith) (omega arith),
       distance-turned by key other k o,
-      sym (distance-turned by key third k t) ∙ ap (distance (turnedBy by key)) zero,
-      sym (distance-turned by third other t o) ∙ ap (λ (n : ℕ). distance n (turnedBy by other)) zero,
+      to-0 key k,
+      distance-comm third other ∙ to-0 other o,
     )
 
 pub circle : Circle

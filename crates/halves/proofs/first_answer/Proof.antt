@@ -33,10 +33,8 @@ returns-2 c =
     let told = c .before .before in
     let asked = told .before .before in
     let st = asked .before in
-    sym (
-    first-passes (ownRows (st .args .journal) (st .args .e)) (keyRows (st .args .rule) (st .args .e)) (sym (asked .own-answer .ensures) ∙ told .enum-told .given .1)
-    ∙ rw (sym (c .before .allows .ensures) ∙ not-true _ (c .if1 .taken))
-    )
+    let by-key = first-passes (ownRows (st .args .journal) (st .args .e)) (keyRows (st .args .rule) (st .args .e)) (sym (asked .own-answer .ensures) ∙ told .enum-told .given .1) in
+    sym (by-key ∙ rw (sym (c .before .allows .ensures) ∙ not-true _ (c .if1 .taken)))
 
 returns-3 : tie.Need-returns-3
 unfolding keyRows
@@ -45,11 +43,8 @@ returns-3 c =
     let asked = told .before .before in
     let st = asked .before in
     let passed = told .enum-told .given .1 in
-    passed
-    ∙ sym (
-    first-passes (ownRows (st .args .journal) (st .args .e)) (keyRows (st .args .rule) (st .args .e)) (sym (asked .own-answer .ensures) ∙ passed)
-    ∙ rw (sym (c .before .allows .ensures) ∙ not-false _ (c .if1 .left))
-    )
+    let by-key = first-passes (ownRows (st .args .journal) (st .args .e)) (keyRows (st .args .rule) (st .args .e)) (sym (asked .own-answer .ensures) ∙ passed) in
+    passed ∙ sym (by-key ∙ rw (sym (c .before .allows .ensures) ∙ not-false _ (c .if1 .left)))
 
 pub first-answer-spec : {M : Type 1} → statement M
 first-answer-spec =

@@ -1,9 +1,12 @@
 -- `admit` meets its contract: each step leaves what the definition says of its part.
 use borrow.Author.Needs.{needs}
 use native.Mathlib.Omega.{arith}
+use Rattle.journal.specs.Journal.{ownRows}
+use Rattle.journal.proofs.Facts.{own-met}
+use Rattle.journal.proofs.Rows.{accepted-both}
 use Rattle.halves.specs.View.{seen}
-use Rattle.halves.specs.Calls.{arrival}
-use Rattle.halves.proofs.Facts.{first-met, room-met}
+use Rattle.halves.specs.Calls.{arrival, keyRows}
+use Rattle.halves.proofs.Facts.{room-met}
 use Rattle.halves.proofs.Laws.{formed-ascending, admitted}
 use Rattle.halves.proofs.View.{mine-length, waiting-length}
 use Rattle.halves.proofs.Halves.admit.Statement.{statement}
@@ -37,7 +40,8 @@ hold-wanted-requires c κs =
 with-requires : tie.Need-with-requires
 with-requires c κs =
     let st = c .before .before .before .before .before .before .before .before .before .before .before .before in
-    first-met (st .args .self .rule) (st .args .self .own .journal) (st .args .e) (st .pre .1 .0) .own .countable
+    let journal = st .args .self .own .journal in
+    own-met journal (st .args .e) (accepted-both (ownRows journal (st .args .e)) (keyRows (st .args .self .rule) (st .args .e)) (st .pre .1 .0) .first) .countable
 
 returns : tie.Need-returns
 returns c =
