@@ -1,4 +1,6 @@
 // The area of a journal: its held entries with their ordinals, in places that the caller lends.
+#![tactic(auto)]
+
 ghost use Rattle.std.specs.Prelude.{◌≡◌, true, [], ◌∷◌, ◌++◌, ◌-◌, ◌≤◌, ◌<◌, length, take, drop, get_or, replicate};
 ghost use Rattle.lists.specs.Judge.{all_of, chain};
 ghost use Rattle.lists.specs.Keep.{keep, last_place};
@@ -14,7 +16,7 @@ use lists::is_blank;
 use pairing::{Entry, Numbered, Rule};
 
 // How many of the places are taken.
-#[derive(Drop)]
+#[derive(Clone, Copy)]
 pub struct Area {
     pub count: usize,
 }

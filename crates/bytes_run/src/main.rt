@@ -1,4 +1,6 @@
 // Shows on the compiled code what document 01 asks to be run: the bytes of a mark, and two feeds that are refused. Then a record of each other kind.
+#![tactic(auto)]
+
 use feed::Reading;
 use interval::Interval;
 use libc::STDOUT_FILENO;

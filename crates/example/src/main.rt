@@ -1,4 +1,6 @@
 // A caller of the library: a setting and a hold of the evening are joined by equal keys, and their pair is taken.
+#![tactic(auto)]
+
 use interval::Interval;
 use join::{Called, Join, Took};
 use journal::Answer;

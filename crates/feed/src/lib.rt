@@ -1,4 +1,6 @@
 // Feed records: a feed is bytes, one record after another. The table of kinds, and reading the record at a place.
+#![tactic(auto)]
+
 ghost use Rattle.std.specs.Prelude.{◌≡◌, ◌+◌, ◌≤◌, length, take, drop};
 ghost use Rattle.feed.specs.Number.{value};
 ghost use Rattle.feed.specs.Kind.{entry, mark, close, pair, lengths_of, fields_in};
@@ -37,7 +39,7 @@ pub const PAIR: u16 = 257;
 pub const PAIR_LENGTH: u16 = 34;
 
 // A record of an input feed. A number before another is its stream.
-#[derive(Drop)]
+#[derive(Clone, Copy)]
 pub enum Record {
     Entry(u16, Entry),
     Mark(u16, u32),
@@ -47,7 +49,7 @@ pub enum Record {
 }
 
 // What reading an input feed at a place finds.
-#[derive(Drop)]
+#[derive(Clone, Copy)]
 pub enum Reading {
     // A record and the place of the next.
     Found(Record, usize),
@@ -58,7 +60,7 @@ pub enum Reading {
 }
 
 // What reading an output feed at a place finds.
-#[derive(Drop)]
+#[derive(Clone, Copy)]
 pub enum PairReading {
     Found(Pair, usize),
     Refused(u32, usize),
@@ -66,21 +68,21 @@ pub enum PairReading {
 }
 
 // The two kinds of feed, which know different kinds of record.
-#[derive(Drop)]
+#[derive(Clone, Copy)]
 enum Feed {
     Input,
     Output,
 }
 
 // The lengths that records of a kind have, if the feed knows it.
-#[derive(Drop)]
+#[derive(Clone, Copy)]
 enum Lengths {
     Unknown,
     Within(u16, u16),
 }
 
 // What stands first in the rest of a feed.
-#[derive(Drop)]
+#[derive(Clone, Copy)]
 enum Head {
     // A whole record: its kind and its length.
     Whole(u16, u16),

@@ -1,4 +1,6 @@
 // Standard input joined through a window of bounded size, and what is printed of it written to standard output.
+#![tactic(auto)]
+
 ghost use Rattle.std.specs.Prelude.{◌≡◌, false, ◌+◌, ◌-◌, ◌≤◌, ◌<◌, length, take, drop};
 ghost use Rattle.std.proofs.Math.Seq.{slice};
 ghost use Rattle.feed.specs.Kind.{shortest_record, longest_record};

@@ -1,4 +1,6 @@
 // Writing feed records into a lent buffer, from its first byte.
+#![tactic(auto)]
+
 ghost use Rattle.std.specs.Prelude.{◌≡◌, [], ◌++◌, ◌+◌, ◌≤◌, length};
 ghost use Rattle.lists.specs.Put.{put};
 ghost use Rattle.feed.specs.Number.{bytes};
@@ -19,7 +21,7 @@ const CLOSE_WHOLE: usize = 2 + CLOSE_LENGTH as usize;
 const PAIR_WHOLE: usize = 2 + PAIR_LENGTH as usize;
 
 // What writing a record answers.
-#[derive(Drop)]
+#[derive(Clone, Copy)]
 pub enum Writing {
     // The record's whole length, the two length bytes included.
     Written(usize),

@@ -1,4 +1,6 @@
 // What a window shows of a feed, of which so many bytes may still be read: whether it tells, and the record that stands first in it.
+#![tactic(auto)]
+
 ghost use Rattle.std.specs.Prelude.{◌≡◌, min};
 ghost use Rattle.feed.specs.Reading.{reading};
 ghost use Rattle.framing.specs.Shown.{shown, tells};
@@ -6,7 +8,7 @@ ghost use Rattle.framing.specs.Shown.{shown, tells};
 use feed::{LONGEST_RECORD, Reading};
 
 // What a step came to.
-#[derive(Drop)]
+#[derive(Clone, Copy)]
 pub enum Went {
     // The window shows too little to tell: a record may go on behind it.
     More,

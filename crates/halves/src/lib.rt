@@ -1,4 +1,6 @@
 // A join as one of its journals sees it: what refuses an entry for want of room, what an admitted entry and a moved gate leave.
+#![tactic(auto)]
+
 ghost use Rattle.std.specs.Prelude.{◌≡◌, true, [], ◌∷◌, ◌++◌, ◌+◌, ◌≤◌, ◌<◌, length};
 ghost use Rattle.lists.specs.Store.{Rows};
 ghost use Rattle.journal.specs.Answer.{first_of, unless_refused};
@@ -14,14 +16,14 @@ use pairing::{Entry, Numbered, Rule, Side};
 use queue::Queue;
 
 // A journal, and how much its area holds.
-#[derive(Drop)]
+#[derive(Clone, Copy)]
 pub struct Half {
     pub journal: Journal,
     pub area: Area,
 }
 
 // The halves of a join, that of one journal first. The held entries and the waiting pairs stand in places that the caller lends.
-#[derive(Drop)]
+#[derive(Clone, Copy)]
 pub struct Halves {
     pub rule: Rule,
     pub own: Half,
@@ -30,7 +32,7 @@ pub struct Halves {
 }
 
 // The halves after an entry, a mark or a close, and what that was answered.
-#[derive(Drop)]
+#[derive(Clone, Copy)]
 pub struct Entered {
     pub answer: Answer,
     pub halves: Halves,

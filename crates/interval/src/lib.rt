@@ -1,9 +1,11 @@
 // Half-open intervals: whether one holds an instant, how long it is, and where two of them meet.
+#![tactic(auto)]
+
 ghost use Rattle.std.specs.Prelude.{◌≡◌, max, min};
 ghost use Rattle.interval.specs.Interval.{holds_at, proper_of, length_of, meeting_of};
 
 // From start up to end, the end left out.
-#[derive(Drop)]
+#[derive(Clone, Copy)]
 pub struct Interval {
     pub start: u32,
     pub end: u32,

@@ -1,4 +1,6 @@
 // The join: two journals, their areas and the queue, with one stated answer to every call.
+#![tactic(auto)]
+
 ghost use Rattle.std.specs.Prelude.{◌≡◌, true, ◌≤◌, length, take};
 ghost use Rattle.lists.specs.Judge.{chain};
 ghost use Rattle.lists.specs.Keep.{keep};
@@ -16,7 +18,7 @@ use pairing::{Entry, Pair, Rule, Side};
 use queue::{Queue, is_ready};
 
 // What goes by value of a join. The held entries and the waiting pairs stand in places that the caller lends to each call.
-#[derive(Drop)]
+#[derive(Clone, Copy)]
 pub struct Join {
     pub rule: Rule,
     pub a: Half,
@@ -25,7 +27,7 @@ pub struct Join {
 }
 
 // What a take answers.
-#[derive(Drop)]
+#[derive(Clone, Copy)]
 pub enum Took {
     Handed(Pair),
     // Nothing is ready yet.
@@ -36,14 +38,14 @@ pub enum Took {
 }
 
 // A join after an entry, a mark or a close, and what that was answered.
-#[derive(Drop)]
+#[derive(Clone, Copy)]
 pub struct Called {
     pub answer: Answer,
     pub join: Join,
 }
 
 // A join after a take, and what that was answered.
-#[derive(Drop)]
+#[derive(Clone, Copy)]
 pub struct Taken {
     pub answer: Took,
     pub join: Join,

@@ -1,4 +1,6 @@
 // A journal: open with its clock, or closed, beside its accepted count; and what a clock wants, releases and refuses.
+#![tactic(auto)]
+
 ghost use Rattle.std.specs.Prelude.{◌≡◌, ◌<◌};
 ghost use Rattle.journal.specs.Answer.{first_of};
 ghost use Rattle.journal.specs.Journal.{entries, wanted, below, not_past, is_closed, is_behind, fresh_journal, moved, entered, own_rows, marked};
@@ -6,21 +8,21 @@ ghost use Rattle.journal.specs.Journal.{entries, wanted, below, not_past, is_clo
 use pairing::Entry;
 
 // Open, with the clock before which no later entry starts; or closed.
-#[derive(Drop)]
+#[derive(Clone, Copy)]
 pub enum Gate {
     Open(u32),
     Closed,
 }
 
 // One of the two journals. Its entries are kept elsewhere.
-#[derive(Drop)]
+#[derive(Clone, Copy)]
 pub struct Journal {
     pub gate: Gate,
     pub accepted: u32,
 }
 
 // What a call answers.
-#[derive(Drop)]
+#[derive(Clone, Copy)]
 pub enum Answer {
     Accepted,
     // With the number that the table of refusals gives.
@@ -28,7 +30,7 @@ pub enum Answer {
 }
 
 // A journal after a mark, and what the mark was answered.
-#[derive(Drop)]
+#[derive(Clone, Copy)]
 pub struct Marked {
     pub answer: Answer,
     pub journal: Journal,

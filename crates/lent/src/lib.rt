@@ -1,4 +1,6 @@
 // Two small services over what a caller lends: a count of partners over a run of entries, and a journal's clock moved where it stands.
+#![tactic(auto)]
+
 ghost use Rattle.std.specs.Prelude.{◌≡◌, min};
 ghost use Rattle.journal.specs.Journal.{marked};
 ghost use Rattle.area.specs.Area.{places, held};
@@ -9,7 +11,7 @@ use journal::{Answer, Journal};
 use pairing::{Entry, Rule};
 
 // What a count answers.
-#[derive(Drop)]
+#[derive(Clone, Copy)]
 pub enum Counted {
     Partners(usize),
     // With the number that the table of refusals gives.

@@ -1,4 +1,6 @@
 // joinfeed with a limit that a record crosses; then how many bytes of the input are left for the next reader.
+#![tactic(auto)]
+
 use libc::{STDIN_FILENO, STDOUT_FILENO};
 
 fn main() {

@@ -1,4 +1,6 @@
 // Text and lines of decimal numbers, put into a lent buffer.
+#![tactic(auto)]
+
 ghost use Rattle.std.specs.Prelude.{◌≡◌, [], ◌∷◌, ◌++◌, ◌+◌, ◌≤◌, ◌<◌, length};
 ghost use Rattle.lists.specs.Put.{put};
 ghost use Rattle.lines.specs.Decimal.{decimal};

@@ -1,4 +1,6 @@
 // The words for lists that the definitions of every other crate share, with their laws; and the test of a spare row.
+#![tactic(auto)]
+
 ghost use Rattle.std.specs.Prelude.{◌≡◌};
 ghost use Rattle.lists.specs.Store.{is_blank};
 

@@ -1,4 +1,6 @@
 // joinfeed on a feed several windows long.
+#![tactic(auto)]
+
 fn main() {
     feed_stream::join_input(steps::READ_LIMIT);
 }

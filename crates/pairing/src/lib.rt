@@ -1,4 +1,6 @@
 // Entries of the two journals, the rule that pairs them, and the pairs that they make.
+#![tactic(auto)]
+
 ghost use Rattle.std.specs.Prelude.{◌≡◌, ◌<◌};
 ghost use Rattle.pairing.specs.Pair.{pairs, partner_of, pair_of, comes_before};
 ghost use Rattle.pairing.specs.Rule.{whole_turn, difference, distance, allows, fits};
@@ -7,7 +9,7 @@ ghost use Rattle.pairing.specs.Side.{pair_from};
 use interval::{Interval, larger, smaller};
 
 // What a journal says from the start of the span up to its end.
-#[derive(Drop)]
+#[derive(Clone, Copy)]
 pub struct Entry {
     pub span: Interval,
     pub key: u32,
@@ -15,21 +17,21 @@ pub struct Entry {
 }
 
 // An accepted entry, with how many its journal accepted before it.
-#[derive(Drop)]
+#[derive(Clone, Copy)]
 pub struct Numbered {
     pub entry: Entry,
     pub ordinal: u32,
 }
 
 // Of which journal.
-#[derive(Drop)]
+#[derive(Clone, Copy)]
 pub enum Side {
     A,
     B,
 }
 
 // Which keys pair.
-#[derive(Drop)]
+#[derive(Clone, Copy)]
 pub enum Rule {
     Equal,
     // Angles at most this far apart, either way round.
@@ -38,7 +40,7 @@ pub enum Rule {
 }
 
 // What a pair carries of one of its entries.
-#[derive(Drop)]
+#[derive(Clone, Copy)]
 pub struct Partner {
     pub ordinal: u32,
     pub key: u32,
@@ -46,7 +48,7 @@ pub struct Partner {
 }
 
 // Where an A entry and a B entry meet.
-#[derive(Drop)]
+#[derive(Clone, Copy)]
 pub struct Pair {
     pub meeting: Interval,
     pub a: Partner,

@@ -1,5 +1,7 @@
 // Standard input through a window, standard output through a buffer: all that a program does round its steps. It knows no join and no steps.
 // A program's loop is a step, which is shown what is not used of the window and puts out behind what is filled of the buffer, and one call by what the step came to: `refill`, `go_on` or `finish`.
+#![tactic(auto)]
+
 ghost use Rattle.std.specs.Prelude.{◌≡◌, ◌++◌, ◌+◌, ◌-◌, ◌≤◌, length, take, drop};
 ghost use Rattle.std.proofs.Math.Seq.{slice};
 ghost use Rattle.pipe.specs.Flow.{Flowing, Refilled, begun, gone, unwritten};
@@ -8,7 +10,7 @@ use framing::least;
 use libc::{STDERR_FILENO, STDIN_FILENO, STDOUT_FILENO};
 
 // How far a program is with its input and what it prints.
-#[derive(Drop)]
+#[derive(Clone, Copy)]
 pub struct Flow {
     // How many bytes of the input may be used, and how many of them are left.
     pub limit: usize,

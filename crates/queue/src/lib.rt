@@ -1,4 +1,6 @@
 // The queue: the pairs formed and not yet handed out, in the plain list's order, in places that the caller lends.
+#![tactic(auto)]
+
 ghost use Rattle.std.specs.Prelude.{◌≡◌, true, [], ◌++◌, ◌+◌, ◌-◌, ◌≤◌, ◌<◌, length, get_or, take, drop, replicate};
 ghost use Rattle.std.proofs.Math.Seq.{slice};
 ghost use Rattle.lists.specs.Judge.{all_of, chain};
@@ -21,7 +23,7 @@ use lists::is_blank;
 use pairing::{Numbered, Pair, Partner, Rule, Side};
 
 // How many of the places are taken.
-#[derive(Drop)]
+#[derive(Clone, Copy)]
 pub struct Queue {
     pub count: usize,
 }

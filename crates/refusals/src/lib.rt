@@ -1,4 +1,5 @@
 // The numbers of the table of refusals, under the names by which the code gives them.
+#![tactic(auto)]
 
 // Stream is neither 0 nor 1.
 pub const STREAM: u32 = 1;

@@ -1,4 +1,6 @@
 // A feed joined record by record, through whatever window shows it: what joinfeed does at each record, and what it puts out.
+#![tactic(auto)]
+
 ghost use Rattle.std.specs.Prelude.{◌≡◌, true, ◌+◌, ◌-◌, ◌*◌, ◌≤◌, ◌<◌, length, take};
 ghost use mathlib.Core.List.{[], ◌∷◌, ◌++◌, flat_map};
 ghost use Rattle.lists.specs.Judge.{chain};
@@ -31,14 +33,14 @@ const LINE: usize = Queue::WIDTH * FIELD;
 pub const ROOM: usize = Queue::PLACES * LINE;
 
 // How many records were accepted, and how many pair lines put out.
-#[derive(Drop)]
+#[derive(Clone, Copy)]
 pub struct Counts {
     pub records: u32,
     pub pairs: u64,
 }
 
 // What a step leaves, beside the lent places and the lent buffer.
-#[derive(Drop)]
+#[derive(Clone, Copy)]
 pub struct Stepped {
     pub went: Went,
     pub join: Join,

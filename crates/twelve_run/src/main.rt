@@ -1,4 +1,6 @@
 // Runs the calls of the twelve examples of document 01, with what P2 adds to the eleventh, on the compiled code, each from a fresh join, and prints the answer to each call and what is held after it. A refusal is printed as its number, a pair as its meeting and its A and B ordinals, a key where it is not 1.
+#![tactic(auto)]
+
 ghost use Rattle.std.specs.Prelude.{◌<◌};
 
 use interval::Interval;

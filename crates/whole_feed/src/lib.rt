@@ -1,4 +1,6 @@
 // A feed that is at hand joined whole: what is printed of it, put into a buffer that the caller lends.
+#![tactic(auto)]
+
 ghost use Rattle.std.specs.Prelude.{◌≡◌, ◌+◌, ◌≤◌, length};
 ghost use Rattle.lists.specs.Put.{put};
 ghost use Rattle.steps.specs.Printed.{printed, read_limit};
@@ -11,7 +13,7 @@ use pairing::Rule;
 use steps::{Counts, READ_LIMIT, ROOM, step};
 
 // What printing a feed into a buffer comes to.
-#[derive(Drop)]
+#[derive(Clone, Copy)]
 pub enum Printing {
     // How many bytes the text has. They stand at the buffer's front.
     Filled(usize),
