@@ -1,0 +1,12 @@
+-- `partners` meets its contract. While it runs, it has counted those of the first i entries that pair.
+use Prim.Native.Nat.{◌≤◌, ◌-◌}
+use mathlib.Core.Path.{◌≡◌}
+use lib.ListN.{length, take}
+use Rattle.area.specs.Area.{held, partners}
+use Rattle.area.proofs.Area.partners.Given as goal
+
+abbrev pub invariant-loop-i : goal.invariant-loop-i
+invariant-loop-i l = (l.i ≤ l.n) × (l.found ≡ length (partners l.rule l.e (take l.i (held l.self l.rows))))
+
+abbrev pub decreases-loop-i : goal.decreases-loop-i
+decreases-loop-i l = l.n - l.i

@@ -1,0 +1,15 @@
+-- `entries_sound` meets its contract. While it runs, the first i entries are sound.
+use Prim.Native.Nat.{ℕ, ◌≤◌, ◌-◌}
+use mathlib.Core.Bool.{true}
+use mathlib.Core.List.{List}
+use mathlib.Core.Path.{◌≡◌}
+use lib.ListN.{take}
+use Rattle.lists.specs.Judge.{all_of}
+use Rattle.area.specs.Area.{held_in, sound_entry}
+use Rattle.area.proofs.entries_sound.Given as goal
+
+abbrev pub invariant-loop-i : goal.invariant-loop-i
+invariant-loop-i l = (l.i ≤ l.n) × (all_of (λ (row : List ℕ). sound_entry l.rule l.own l.other (held_in row)) (take l.i l.rows) ≡ true)
+
+abbrev pub decreases-loop-i : goal.decreases-loop-i
+decreases-loop-i l = l.n - l.i
