@@ -25,12 +25,12 @@ loop-i-preserved c =
     let tested = sym (c.wants.ensures ∙ ap (λ (x : Numbered). wanted c.args.gate x.entry) c.entry_in-x.ensures) in
     let next = squeeze_next test c.args.rows.now l c.loop-i.i c.loop-i.kept [] inside₀ inside c.loop-i.invariant.1 c.loop-i.invariant.2 c.loop-i.invariant.3 in
     elim c.if-wants.branch [
-      then-wants w ↦
-    let front = squeeze_kept test c.args.rows.now l c.loop-i.i c.loop-i.kept [] inside₀ inside c.loop-i.invariant.1 c.loop-i.invariant.2 c.loop-i.invariant.3 (tested ∙ w.if-wants.true) in
-    rw w.kept-is (omega arith, omega arith, front, next, length-set l c.loop-i.kept _ ∙ c.loop-i.invariant.4)
-    | else-wants w ↦
-    let front = squeeze_left test c.args.rows.now l c.loop-i.i c.loop-i.kept [] inside₀ inside c.loop-i.invariant.1 c.loop-i.invariant.2 c.loop-i.invariant.3 (tested ∙ w.if-wants.false) in
-    rw w.kept-is (omega arith, omega arith, front, next, length-set l c.loop-i.kept _ ∙ c.loop-i.invariant.4)
+      | then-wants w ↦
+          let front = squeeze_kept test c.args.rows.now l c.loop-i.i c.loop-i.kept [] inside₀ inside c.loop-i.invariant.1 c.loop-i.invariant.2 c.loop-i.invariant.3 (tested ∙ w.if-wants.true) in
+          rw w.kept-is (omega arith, omega arith, front, next, length-set l c.loop-i.kept _ ∙ c.loop-i.invariant.4)
+      | else-wants w ↦
+          let front = squeeze_left test c.args.rows.now l c.loop-i.i c.loop-i.kept [] inside₀ inside c.loop-i.invariant.1 c.loop-i.invariant.2 c.loop-i.invariant.3 (tested ∙ w.if-wants.false) in
+          rw w.kept-is (omega arith, omega arith, front, next, length-set l c.loop-i.kept _ ∙ c.loop-i.invariant.4)
     ]
 
 pub returns : goal.returns

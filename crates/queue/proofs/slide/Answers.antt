@@ -36,14 +36,14 @@ returns c =
     let p = c.args.p in
     let stop : (m : ℕ) → c.loop-k.k ≡ suc m → row_before (pair_numbers p) (get_or c.loop-k.rows m []) ≡ false = λ m e.
     elim c.loop-k-test.branch [
-      else-loop-k-test w ↦ absurd (none m e w.loop-k-test.false)
-    | then-loop-k-test+then-not-comes_before w ↦
-      let f : c.loop-k.k - 1 ≡ m = omega arith in
-      let row = get_or c.loop-k.rows (c.loop-k.k - 1) [] in
-      ap (λ (i : ℕ). row_before (pair_numbers p) (get_or c.loop-k.rows i [])) (sym f)
-      ∙ ap (λ (q : Pair). comes_before q (pair_in row)) (pair_numbers_lem p)
-      ∙ sym (w.comes_before.ensures ∙ ap (comes_before p) w.pair_in.ensures)
-      ∙ w.if-not-comes_before.true
+      | else-loop-k-test w ↦ absurd (none m e w.loop-k-test.false)
+      | then-loop-k-test+then-not-comes_before w ↦
+          let f : c.loop-k.k - 1 ≡ m = omega arith in
+          let row = get_or c.loop-k.rows (c.loop-k.k - 1) [] in
+          ap (λ (i : ℕ). row_before (pair_numbers p) (get_or c.loop-k.rows i [])) (sym f)
+          ∙ ap (λ (q : Pair). comes_before q (pair_in row)) (pair_numbers_lem p)
+          ∙ sym (w.comes_before.ensures ∙ ap (comes_before p) w.pair_in.ensures)
+          ∙ w.if-not-comes_before.true
     ] in
     rw c.row_of.ensures
     (slide_end row_before (pair_numbers p) [] c.args.rows.now c.args.w c.args.gap c.requires.0 (omega arith) c.loop-k.rows c.loop-k.k c.loop-k.invariant strict_row_before c.requires.3 stop)

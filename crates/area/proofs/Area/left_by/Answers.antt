@@ -27,8 +27,8 @@ loop-i-preserved c =
     let inside : i < length xs = omega (arith, held_long c.args.self c.args.rows.now c.requires.0 c.requires.1) in
     let tested = sym (c.wants.ensures ∙ ap test c.entry_at-y.ensures) in
     elim c.if-wants.branch [
-      then-wants w ↦ (omega arith, w.left-is ∙ ap (λ (m : ℕ). m + 1) c.loop-i.invariant.1 ∙ kept_more test xs i no_entry inside (tested ∙ w.if-wants.true))
-    | else-wants w ↦ (omega arith, w.left-is ∙ c.loop-i.invariant.1 ∙ kept_same test xs i no_entry inside (tested ∙ w.if-wants.false))
+      | then-wants w ↦ (omega arith, w.left-is ∙ ap (λ (m : ℕ). m + 1) c.loop-i.invariant.1 ∙ kept_more test xs i no_entry inside (tested ∙ w.if-wants.true))
+      | else-wants w ↦ (omega arith, w.left-is ∙ c.loop-i.invariant.1 ∙ kept_same test xs i no_entry inside (tested ∙ w.if-wants.false))
     ]
 
 pub returns : goal.returns

@@ -27,8 +27,8 @@ loop-i-preserved c =
     let inside : i < length xs = omega (arith, held_long c.args.self c.args.rows.now c.requires.0 c.requires.1) in
     let tested = sym (c.pairs.ensures ∙ ap test c.entry_at-x.ensures) in
     elim c.if-pairs.branch [
-      then-pairs w ↦ (omega arith, w.found-is ∙ ap (λ (m : ℕ). m + 1) c.loop-i.invariant.1 ∙ kept_more test xs i no_entry inside (tested ∙ w.if-pairs.true))
-    | else-pairs w ↦ (omega arith, w.found-is ∙ c.loop-i.invariant.1 ∙ kept_same test xs i no_entry inside (tested ∙ w.if-pairs.false))
+      | then-pairs w ↦ (omega arith, w.found-is ∙ ap (λ (m : ℕ). m + 1) c.loop-i.invariant.1 ∙ kept_more test xs i no_entry inside (tested ∙ w.if-pairs.true))
+      | else-pairs w ↦ (omega arith, w.found-is ∙ c.loop-i.invariant.1 ∙ kept_same test xs i no_entry inside (tested ∙ w.if-pairs.false))
     ]
 
 pub returns : goal.returns

@@ -13,14 +13,14 @@ pub returns-then-waiting-new-gt-PLACES : goal.returns-then-waiting-new-gt-PLACES
 unfolding room_for
 returns-then-waiting-new-gt-PLACES c =
     elim c.else-wants.branch [
-      else-wants-via-then-wants+else-area-ge-MOST w ↦ rw (sym c.wants.ensures ∙ w.if-wants.true, lt-leb _ _ w.if-area-ge-MOST.false, lt-ltb _ _ c.if-waiting-new-gt-PLACES.true)
-    | else-wants-via-else-wants w ↦ rw (sym c.wants.ensures ∙ w.if-wants.false, lt-ltb _ _ c.if-waiting-new-gt-PLACES.true)
+      | else-wants-via-then-wants+else-area-ge-MOST w ↦ rw (sym c.wants.ensures ∙ w.if-wants.true, lt-leb _ _ w.if-area-ge-MOST.false, lt-ltb _ _ c.if-waiting-new-gt-PLACES.true)
+      | else-wants-via-else-wants w ↦ rw (sym c.wants.ensures ∙ w.if-wants.false, lt-ltb _ _ c.if-waiting-new-gt-PLACES.true)
     ]
 
 pub returns : goal.returns
 unfolding room_for
 returns c =
     elim c.else-wants.branch [
-      else-wants-via-then-wants+else-area-ge-MOST w ↦ rw (sym c.wants.ensures ∙ w.if-wants.true, lt-leb _ _ w.if-area-ge-MOST.false, le-ltb _ _ c.if-waiting-new-gt-PLACES.false)
-    | else-wants-via-else-wants w ↦ rw (sym c.wants.ensures ∙ w.if-wants.false, le-ltb _ _ c.if-waiting-new-gt-PLACES.false)
+      | else-wants-via-then-wants+else-area-ge-MOST w ↦ rw (sym c.wants.ensures ∙ w.if-wants.true, lt-leb _ _ w.if-area-ge-MOST.false, le-ltb _ _ c.if-waiting-new-gt-PLACES.false)
+      | else-wants-via-else-wants w ↦ rw (sym c.wants.ensures ∙ w.if-wants.false, le-ltb _ _ c.if-waiting-new-gt-PLACES.false)
     ]

@@ -10,12 +10,15 @@ unfolding sound
 returns-then-sound-2 c =
     let judged : c.sound-then-sound-2.result ≡ sound (state_with c.args.self c.args.a.now c.args.b.now c.args.rows.now) =
     rw (le-leb _ _ c.if-own-le-ENTRIES.true, le-leb _ _ c.if-other-le-ENTRIES.true, sym c.sound.ensures.value ∙ c.if-sound.true, sym c.sound-then-sound.ensures.value ∙ c.if-sound-2.true)
-    c.sound-then-sound-2.ensures.value in record { value = judged; sound = λ e. record {
+    c.sound-then-sound-2.ensures.value in record {
+      value = judged;
+      sound = λ e. record {
         judged = sym judged ∙ e;
         holds_a = c.sound.ensures.holds c.if-sound.true;
         holds_b = c.sound-then-sound.ensures.holds c.if-sound-2.true;
         holds_queue = c.sound-then-sound-2.ensures.holds e;
-      } }
+      };
+    }
 
 pub returns-else-sound-2 : goal.returns-else-sound-2
 unfolding sound
