@@ -31,11 +31,15 @@ total (width ∷ widths) = width + total widths
 
 pub packed_length : (widths numbers : List ℕ) → Room widths numbers → length (packed widths numbers) ≡ total widths
 packed_length [] [] h = refl
+packed_length [] (number ∷ numbers) h = elim h [ ]
+packed_length (width ∷ widths) [] h = elim h [ ]
 packed_length (width ∷ widths) (number ∷ numbers) h = simp (length-append, bytes_length, packed_length widths numbers h.1)
 
 -- numbers that were packed are unpacked, whatever follows them
 pub unpacked_packed : (widths numbers rest : List ℕ) → Room widths numbers → unpacked widths (packed widths numbers ++ rest) ≡ numbers
 unpacked_packed [] [] rest h = refl
+unpacked_packed [] (number ∷ numbers) rest h = elim h [ ]
+unpacked_packed (width ∷ widths) [] rest h = elim h [ ]
 unpacked_packed (width ∷ widths) (number ∷ numbers) rest h =
     rw (
       append_assoc (bytes width number) (packed widths numbers) rest,

@@ -154,3 +154,4 @@ whole_pair bs {kind} {size} h = go (whole_row Output bs h)
   where
     go : Row kind size (kinds_of Output) → (kind ≡ 257) × (size ≡ 34)
     go (here k (l, m)) = (k, omega arith)
+    go (there x3) = elim x3 [ ]

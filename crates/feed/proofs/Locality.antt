@@ -43,6 +43,7 @@ module _ (n : ℕ) (bs : List ℕ) where
   record_in_first kind size (there (here k w)) h = rw k (ap mark_from (fields_in_first mark (omega arith)))
   record_in_first kind size (there (there (here k w))) h = rw k (ap close_from (fields_in_first close (omega arith)))
   record_in_first kind size (there (there (there (here k w)))) h = rw k
+  record_in_first kind size (there (there (there (there x13)))) h = elim x13 [ ]
 
 -- ---- the record's own bytes decide
 

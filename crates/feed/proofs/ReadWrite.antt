@@ -92,6 +92,7 @@ module _ (s : List ℕ) (at : ℕ) (r : Record) (next : ℕ) (b : Bytes s) (h : 
               ∙ ap (λ (m : ℕ). take m (drop at s)) rest;
           short = rw text (simp length-take (omega arith));
         }
+    back kind k e (there (there (there (there x12)))) = elim x12 [ ]
 
 found_back : (s : List ℕ) (at : ℕ) {r : Record} {next : ℕ} → Bytes s → reading s at ≡ Found r next → Back s at r next
 found_back s at {r} {next} b h =

@@ -103,6 +103,7 @@ note_size kind size n bs (there (there (there (here k (l, m))))) e =
     let f = rw k at e in
     let same : size - 2 ≡ n = cc in
     omega arith
+note_size kind size n bs (there (there (there (there x13)))) e = elim x13 [ ]
 
 -- a note's text stands behind the length and the kind, and ends where the next record starts
 pub note_ends : (s : List ℕ) (at : ℕ) {size next : ℕ} → reading s at ≡ Found (Note size) next → (next ≡ at + 4 + size) × (next ≤ length s)

@@ -1,5 +1,4 @@
 -- `shows` meets its contract: its tests are those of the definition, and no sum can wrap.
-use borrow.Author.Rules.{rules}
 use borrow.Author.Tests.{leb-true, leb-false, le-leb, lt-leb}
 use Prim.Native.Nat.{ℕ, ◌+◌, ◌-◌, ◌≤◌}
 use native.Mathlib.Omega.{arith}
@@ -9,8 +8,7 @@ use mathlib.Core.Path.{◌≡◌, refl, sym, ap, ◌∙◌}
 use lib.Dec.{leb}
 use lib.ListN.{length}
 use Rattle.feed.specs.Reading.{length_in, outside, shows}
-use Rattle.feed.proofs.shows.Statement.{statement}
-use Rattle.feed.proofs.shows.Tie as tie
+use Rattle.feed.proofs.shows.Goals as goal
 
 -- by what is left behind the length
 less_two : (n all : ℕ) → 2 ≤ all → leb n (all - 2) ≡ leb (2 + n) all
@@ -24,33 +22,14 @@ length-there : (bs : List ℕ) (n : ℕ) (out : Bool) → 2 ≤ length bs → n 
 unfolding shows
 length-there bs n out h e o = rw (le-leb 2 (length bs) h, sym e, sym o) (ap (λ (b : Bool). out || b) (less_two n (length bs) h))
 
-returns : tie.Need-returns
+pub returns-then-s-lt2 : goal.returns-then-s-lt2
 unfolding shows
-returns c = rw (lt-leb 2 _ c.if1.true)
+returns-then-s-lt2 c = rw (lt-leb 2 _ c.if-s-lt2.true)
 
-get16-requires : tie.Need-get16-requires
-get16-requires c κs = search rules
+pub returns-then-outside : goal.returns-then-outside
+returns-then-outside c =
+    c.if-outside.true ∙ length-there _ _ true c.if-s-lt2.false c.get16-size.ensures (sym c.if-outside.true ∙ c.outside.ensures)
 
-outside-requires : tie.Need-outside-requires
-outside-requires c κs = search rules
-
-cast-result : tie.Need-overflow-cast-result
-cast-result c = search rules
-
-sub-result : tie.Need-overflow-sub-result
-sub-result c = search rules
-
-returns-2 : tie.Need-returns-2
-returns-2 c =
-    let sized = c.before.before in
-    c.if2.true ∙ length-there _ _ true sized.before.if1.false sized.get16.ensures (sym c.if2.true ∙ c.before.outside.ensures)
-
-returns-3 : tie.Need-returns-3
-returns-3 c =
-    let sized = c.before.before in
-    length-there _ _ false sized.before.if1.false sized.get16.ensures (sym c.if2.false ∙ c.before.outside.ensures)
-
-pub shows-spec : {M : Type 1} → statement M
-shows-spec =
-    tie.close
-    (tie.spec returns get16-requires outside-requires cast-result sub-result returns-2 returns-3)
+pub returns-else-outside : goal.returns-else-outside
+returns-else-outside c =
+    length-there _ _ false c.if-s-lt2.false c.get16-size.ensures (sym c.if-outside.false ∙ c.outside.ensures)
