@@ -3,15 +3,14 @@ use Prim.Native.Nat.{ℕ, suc, ◌+◌, ◌-◌, ◌*◌, ◌/◌, ◌%◌, ◌^
 use native.Mathlib.Nat.{mul-add-mod_self_left, div-div-eq-div-mul, pow-suc}
 use native.Mathlib.Omega.{arith}
 use mathlib.Core.List.{List, [], ◌∷◌, ◌++◌}
-use mathlib.Core.Logic.{⊎_elim}
 use mathlib.Core.Path.{◌≡◌, refl, sym, ap, subst, ◌∙◌}
 use lib.ListN.{length, set, length-set}
 use Rattle.lists.specs.Put.{put}
 use Rattle.lists.proofs.Put.{put_none, put_last}
 use Rattle.lines.specs.Decimal.{last_digit, decimal}
 use Rattle.lines.proofs.Decimals.{last_digits, length_last_digits, decimal_last, decimal_below}
-use Rattle.lines.proofs.put_number.Statement.{statement}
-use Rattle.lines.proofs.put_number.Tie as tie
+use Rattle.lines.proofs.put_number.Goals as goal
+use Rattle.lines.proofs.put_number.Goals.{then-at-i, else-at-i}
 
 -- a digit put in place leaves those in front of it
 digit-put : (at i n : ℕ) (out : List ℕ) → at < i → i ≤ length out → put at (last_digits (i - 1 - at) (n / 10)) (set out (i - 1) (last_digit n)) ≡ put at (last_digits (i - at) n) out
@@ -77,131 +76,51 @@ digit-left at end n after old i rest out one few behind inside small h =
     ∙ digits-put at end n after old (i - 1) (rest / 10) (omega arith) behind inside
     (ap (λ (p : ℕ). put at (last_digits (i - 1 - at) (rest / 10)) (set out p (last_digit rest))) place ∙ digit-put at i rest out (omega arith) few ∙ h)
 
-abbrev invariant-loop : tie.invariant-loop
-invariant-loop out₀ at n after end i₀ rest₀ out i rest = (at ≤ i) × (i ≤ end) × (put at (last_digits (i - at) rest) out ≡ put at (last_digits (end - at) n) out₀) × (length out ≡ length out₀) × (rest < 10 ^ (i - at))
-
-abbrev decreases-loop : tie.decreases-loop
-decreases-loop out₀ at n after end i₀ rest₀ out i rest = i - at
-
-places-requires : tie.Need-places-requires invariant-loop decreases-loop
-places-requires c κs = omega arith
-
-add-end : tie.Need-overflow-add-end invariant-loop decreases-loop
-add-end c = omega arith
-
-slice-write-out : tie.Need-slice-write-out invariant-loop decreases-loop
-slice-write-out c = omega arith
-
-loop-holds : tie.Need-loop-init invariant-loop decreases-loop
-loop-holds c =
-    let a = c.before.before.args in
+pub loop-i-init : goal.loop-i-init
+loop-i-init c =
+    let a = c.args in
     let all : a.at + c.places.result - a.at ≡ length (decimal a.n) = omega arith in
     (omega arith, omega arith, refl, refl, subst (λ (j : ℕ). a.n < 10 ^ j) (sym all) (decimal_below a.n (omega arith)))
 
-add-loop : tie.Need-overflow-add-loop invariant-loop decreases-loop
-add-loop c = omega arith
+pub bounds-out-i : goal.bounds-out-i
+bounds-out-i c = let long = simp length-set at c.loop-i.invariant.3 in omega arith
 
-cast-out : tie.Need-overflow-cast-out invariant-loop decreases-loop
-cast-out c = omega arith
+pub bounds-out-i-in-loop-i : goal.bounds-out-i-in-loop-i
+bounds-out-i-in-loop-i c = let long = simp length-set at c.loop-i.invariant.3 in simp length-set (omega arith)
 
-add-out : tie.Need-overflow-add-out invariant-loop decreases-loop
-add-out c = omega arith
-
-sub_out : tie.Need-overflow-sub-out invariant-loop decreases-loop
-sub_out c = omega arith
-
-slice-write-out-2 : tie.Need-slice-write-out-2 invariant-loop decreases-loop
-slice-write-out-2 c = let long = simp length-set at c.before.loop.invariant.3 in omega arith
-
-cast-out-2 : tie.Need-overflow-cast-out-2 invariant-loop decreases-loop
-cast-out-2 c = omega arith
-
-add-out-2 : tie.Need-overflow-add-out-2 invariant-loop decreases-loop
-add-out-2 c = omega arith
-
-sub-out-2 : tie.Need-overflow-sub-out-2 invariant-loop decreases-loop
-sub-out-2 c = omega arith
-
-slice-write-out-3 : tie.Need-slice-write-out-3 invariant-loop decreases-loop
-slice-write-out-3 c = let long = simp length-set at c.before.loop.invariant.3 in simp length-set (omega arith)
-
-sub-i : tie.Need-overflow-sub-i invariant-loop decreases-loop
-sub-i c = omega arith
-
-loop-less : tie.Need-loop-smaller invariant-loop decreases-loop
-loop-less c = omega arith
-
-loop-again : tie.Need-loop-preserved invariant-loop decreases-loop
-loop-again c =
-    let at-loop = c.before.loop in
+pub loop-i-preserved : goal.loop-i-preserved
+loop-i-preserved c =
+    let at-loop = c.loop-i in
     let long = simp length-set at at-loop.invariant.3 in (
       omega arith,
       omega arith,
-      two-put c.before.before.before.before.args.at at-loop.i at-loop.rest at-loop.out (omega arith) (omega arith) ∙ at-loop.invariant.2,
+      two-put c.args.at at-loop.i at-loop.rest at-loop.out (omega arith) (omega arith) ∙ at-loop.invariant.2,
       simp length-set long,
-      two-fewer c.before.before.before.before.args.at at-loop.i at-loop.rest (omega arith) at-loop.invariant.4,
+      two-fewer c.args.at at-loop.i at-loop.rest (omega arith) at-loop.invariant.4,
     )
 
-cast-out-3 : tie.Need-overflow-cast-out-3 invariant-loop decreases-loop
-cast-out-3 c =
-    let at-loop = c.before.before.loop in
-    let one = one_left c.before.before.before.before.before.args.at at-loop.i at-loop.rest (omega arith) (omega arith) at-loop.invariant.4 in
+pub overflow_cast-out-then-at-i : goal.overflow_cast-out-then-at-i
+overflow_cast-out-then-at-i c =
+    let at-loop = c.loop-i in
+    let one = one_left c.args.at at-loop.i at-loop.rest (omega arith) (omega arith) at-loop.invariant.4 in
     record { fits = omega arith }
 
-add-out-3 : tie.Need-overflow-add-out-3 invariant-loop decreases-loop
-add-out-3 c =
-    let at-loop = c.before.before.loop in
-    let one = one_left c.before.before.before.before.before.args.at at-loop.i at-loop.rest (omega arith) (omega arith) at-loop.invariant.4 in
+pub overflow_add-out-then-at-i : goal.overflow_add-out-then-at-i
+overflow_add-out-then-at-i c =
+    let at-loop = c.loop-i in
+    let one = one_left c.args.at at-loop.i at-loop.rest (omega arith) (omega arith) at-loop.invariant.4 in
     record { fits = omega arith }
 
-slice-write-out-4 : tie.Need-slice-write-out-4 invariant-loop decreases-loop
-slice-write-out-4 c = let long = simp length-set at c.before.before.loop.invariant.3 in omega arith
+pub bounds-out-at : goal.bounds-out-at
+bounds-out-at c = let long = simp length-set at c.loop-i.invariant.3 in omega arith
 
-add-result : tie.Need-overflow-add-result invariant-loop decreases-loop
-add-result c = omega arith
-
-same_length : tie.Need-same-length invariant-loop decreases-loop
-same_length c =
-    let at-loop = c.before.before.loop in
+pub returns-clause-out_after : goal.returns-clause-out_after
+returns-clause-out_after c =
+    let a = c.args in
+    let at-loop = c.loop-i in
+    let end = a.at + c.places.result in
     let long = simp length-set at at-loop.invariant.3 in
-    ⊎_elim (λ w. ap length w.1 ∙ simp length-set long) (λ w. ap length w.1 ∙ long) c.if1.branch
-
-returns : tie.Need-returns invariant-loop decreases-loop
-returns c =
-    let a = c.before.before.before.before.before.args in
-    let at-loop = c.before.before.loop in
-    let end = a.at + c.before.before.before.places.result in
-    let long = simp length-set at at-loop.invariant.3 in (
-      omega arith,
-      ⊎_elim (λ w. w.1 ∙ digit-left a.at end a.n a.after a.out.now at-loop.i at-loop.rest at-loop.out (omega (arith, w.0.taken)) (omega arith) (omega arith) (omega arith) (one_left a.at at-loop.i at-loop.rest (omega (arith, w.0.taken)) (omega arith) at-loop.invariant.4) at-loop.invariant.2)
-          (λ w. w.1 ∙ digits-put a.at end a.n a.after a.out.now at-loop.i at-loop.rest (omega (arith, w.0.left)) (omega arith) (omega arith) at-loop.invariant.2) c.if1.branch,
-    )
-
-pub put-number-spec : {M : Type 1} → statement M
-put-number-spec =
-    tie.close
-    (tie.spec
-    invariant-loop
-    decreases-loop
-    places-requires
-    add-end
-    slice-write-out
-    loop-holds
-    add-loop
-    cast-out
-    add-out
-    sub_out
-    slice-write-out-2
-    cast-out-2
-    add-out-2
-    sub-out-2
-    slice-write-out-3
-    sub-i
-    loop-less
-    loop-again
-    cast-out-3
-    add-out-3
-    slice-write-out-4
-    add-result
-    same_length
-    returns)
+    elim c.if-at-i.branch [
+      then-at-i w ↦ w.out-is ∙ digit-left a.at end a.n a.after a.out.now at-loop.i at-loop.rest at-loop.out (omega (arith, w.if-at-i.true)) (omega arith) (omega arith) (omega arith) (one_left a.at at-loop.i at-loop.rest (omega (arith, w.if-at-i.true)) (omega arith) at-loop.invariant.4) at-loop.invariant.2
+    | else-at-i w ↦ w.out-is ∙ digits-put a.at end a.n a.after a.out.now at-loop.i at-loop.rest (omega (arith, w.if-at-i.false)) (omega arith) (omega arith) at-loop.invariant.2
+    ]
