@@ -121,6 +121,6 @@ returns-clause-out_after c =
     let end = a.at + c.places.result in
     let long = simp length-set at at-loop.invariant.3 in
     elim c.if-at-i.branch [
-      then-at-i w ↦ w.out-is ∙ digit-left a.at end a.n a.after a.out.now at-loop.i at-loop.rest at-loop.out (omega (arith, w.if-at-i.true)) (omega arith) (omega arith) (omega arith) (one_left a.at at-loop.i at-loop.rest (omega (arith, w.if-at-i.true)) (omega arith) at-loop.invariant.4) at-loop.invariant.2
-    | else-at-i w ↦ w.out-is ∙ digits-put a.at end a.n a.after a.out.now at-loop.i at-loop.rest (omega (arith, w.if-at-i.false)) (omega arith) (omega arith) at-loop.invariant.2
+      | then-at-i w ↦ w.out-is ∙ digit-left a.at end a.n a.after a.out.now at-loop.i at-loop.rest at-loop.out (omega (arith, w.if-at-i.true)) (omega arith) (omega arith) (omega arith) (one_left a.at at-loop.i at-loop.rest (omega (arith, w.if-at-i.true)) (omega arith) at-loop.invariant.4) at-loop.invariant.2
+      | else-at-i w ↦ w.out-is ∙ digits-put a.at end a.n a.after a.out.now at-loop.i at-loop.rest (omega (arith, w.if-at-i.false)) (omega arith) (omega arith) at-loop.invariant.2
     ]

@@ -1,5 +1,4 @@
 -- `put_text` meets its contract. The invariant of its loop: the first i bytes of the text are put in. The measure is what is left of the text.
-use Prim.Native.Nat.{◌-◌}
 use native.Mathlib.Numerals.{add-one}
 use native.Mathlib.Omega.{arith}
 use mathlib.Core.Path.{◌≡◌, refl, ◌∙◌}
