@@ -114,6 +114,7 @@ pub fn write_close(buf: &mut [u8], stream: u16) -> Writing
 }
 
 // Writes a note.
+#[tactic(auto, using(crate::proofs::Writings::text_refused), unfolding(feed::specs::Record::stream_known))]
 pub fn write_note(buf: &mut [u8], text: &[u8]) -> Writing
     ensures { (result, buf.new) ≡ record_writing (Record.Note (length text.now)) text.now buf.old }
 {

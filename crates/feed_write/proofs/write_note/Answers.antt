@@ -10,18 +10,14 @@ use Rattle.feed_write.specs.declared.Writing.TheVariants.{Written}
 use Rattle.feed.specs.Number.{bytes}
 use Rattle.feed.specs.Record.{record_bytes, stream_known}
 use Rattle.lists.proofs.Put.{put_then}
-use Rattle.feed_write.proofs.Writings.{text_refused, room_refused, record_written}
+use Rattle.feed_write.proofs.Writings.{room_refused, record_written}
 use Rattle.feed_write.proofs.write_note.Goals as goal
-
-pub returns-then-size-gt64 : goal.returns-then-size-gt64
-unfolding stream_known
-returns-then-size-gt64 c = sym (text_refused _ _ _ refl c.if-size-gt64.true)
 
 pub returns-then-buf-size : goal.returns-then-buf-size
 unfolding record_bytes stream_known
 returns-then-buf-size c =
     let a = c.args in
-    sym (room_refused (Note (length a.text.now)) a.text.now a.buf.now refl c.if-size-gt64.false (omega arith))
+    sym (room_refused (Note (length a.text.now)) a.text.now a.buf.now refl (omega arith) (omega arith))
 
 pub returns : goal.returns
 unfolding record_bytes stream_known
@@ -34,4 +30,4 @@ returns c =
     ap (λ (new : List ℕ). (Written (4 + length text), new))
     (put_then 0 head text old c.put_head.ensures c.put_text.ensures (omega arith))
     ∙ ap (λ (n : ℕ). (Written n, put 0 (head ++ text) old)) whole
-    ∙ sym (record_written (Note (length text)) text old refl c.if-size-gt64.false (omega arith))
+    ∙ sym (record_written (Note (length text)) text old refl (omega arith) (omega arith))
