@@ -1,5 +1,5 @@
 -- The contract of each public function allows one result, and that of a lent journal one record at exit.
--- The checker makes no reading of a contract that is proved by a walk, so each is read here first: in every model, what it ensures is the fact beside it.
+-- Those of `partner_count` and `mark_lent` are read here first: in every model, what each ensures is the fact beside it.
 use mathlib.Core.Path.{◌≡◌, refl, sym, ◌∙◌}
 use seplogic.Ra.Ura.{Ura}
 use base.Logic.{SProp, sep}

@@ -1,4 +1,5 @@
 -- Steps that the walks of this crate share. A walk goes through a function's code statement by statement, with a list of what it has; a step says what is had before and after it.
+-- The proofs of this crate are no walks any more, and nothing cites these steps.
 -- Assumes nothing.
 use Prim.Native.Nat.{ℕ, zero, suc, ◌+◌, ◌*◌, ◌-◌}
 use mathlib.Core.Bool.{Bool, not}
@@ -6,8 +7,8 @@ use mathlib.Core.List.{List, [], ◌∷◌}
 use mathlib.Core.Path.{◌≡◌, refl, ap}
 use lib.Dec.{T}
 use seplogic.Ra.Ura.{Ura}
-use seplogic.Ra.TreeShare.{full_share}
-use mir.Syntax.{Ty, Name, Place, Opd as Operand, Rv as RValue, Body, place, copy, seq, assign, cond, skip, call}
+use base.Fraction.{full_share}
+use mir.Syntax.{Ty, Callee, Place, Opd as Operand, Rv as RValue, Body, place, copy, seq, assign, cond, skip, call}
 use mir.Val.{Val, vbool}
 use base.Logic.{SProp, ent, sep, emp, via, emp∗, mono_l, assoc∗}
 use base.Fml.{Share, ftrue, fat, froom, fdies}
@@ -86,13 +87,13 @@ module _ {M : Type 1} {𝓤 : Ura M} (𝓛 : Logic 𝓤) (F : Ended) (s : Spec �
     Asked = sep 𝓤 (sep 𝓤 (emp 𝓤) (sem 𝓛 (owns Taken x.0.3 x.0.4))) (emp 𝓤)
 
     abbrev pub Left : (Result.Denot → Type 0) → Val → Item 𝓤
-    Left φ u = later (some (λ (r : Result.Denot). (‵ ftrue ⊛ ‵ (Result.own r (u ∷ []))) ⊛ some (λ (ws : Lasts F x.0.0 x.0.3). ‵ (lasts F x.0.0 x.0.3 ws) ⊛ raw (fact 𝓤 (φ r)))))
+    Left φ u = later (some (λ (r : Result.Denot). (‵ ftrue ⊛ ‵ (Result.own_val r (u ∷ []))) ⊛ some (λ (ws : Lasts F x.0.0 x.0.3). ‵ (lasts F x.0.0 x.0.3 ws) ⊛ raw (fact 𝓤 (φ r)))))
 
 module _ {M : Type 1} {𝓤 : Ura M} {𝓛 : Logic 𝓤} {K : Type 0} {Γ : List (Item 𝓤)} where
   -- its arguments are had for nothing, and all that is kept of its result u is which value r that is, and the fact
   open 𝓛 use {H}
 
-  pub asks : K → {E : Env 𝓤 H} {C : Calls 𝓤 H} {Λ : Loops 𝓤 H} {q : Post 𝓤 H} {f : Name} {os : List Operand} {d : Place} {rest : Body} → FmC 𝓤 H 𝓛.laws C
+  pub asks : K → {E : Env 𝓤 H} {C : Calls 𝓤 H} {Λ : Loops 𝓤 H} {q : Post 𝓤 H} {f : Callee} {os : List Operand} {d : Place} {rest : Body} → FmC 𝓤 H 𝓛.laws C
       → (F : Ended) (s : Spec 𝓤 F.signature) → Triple 𝓤 (C f) (Called 𝓛 F s) → (x : (Called 𝓛 F s).Ghost)
       → Makess 𝓛 (Taken 𝓛 F s x) (Ises (Taken 𝓛 F s x)) → Are (Taken 𝓛 F s x) (Ises (Taken 𝓛 F s x)) x.0.3 x.0.4
       → ent 𝓤 (Asked 𝓛 F s x) ((Called 𝓛 F s).pre x) → (φ : (Result 𝓛 F s x).Denot → Type 0) → ((u : Val) → ent 𝓤 ((Called 𝓛 F s).post x u) (mean 𝓛 (Left 𝓛 F s x φ u)))
