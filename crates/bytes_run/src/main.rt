@@ -3,40 +3,37 @@
 
 use feed::Reading;
 use interval::Interval;
-use libc::STDOUT_FILENO;
 use pairing::{Entry, Pair, Partner};
+use std::io;
 
 const DIGITS: [u8; 16] = *b"0123456789ABCDEF";
 
-fn print_byte(b: u8) {
+fn print_byte(rt: &impl Print, b: u8) -> io::Result<()> {
     let high = (b / 16) as usize;
     let low = (b % 16) as usize;
-    io::write_all(STDOUT_FILENO, &[DIGITS[high], DIGITS[low]]);
+    rt.write_all(&[DIGITS[high], DIGITS[low]])
 }
 
 // The bytes of a line, two digits each and a space between.
-fn print_bytes(bytes: &[u8]) {
-    let mut i = 0;
-    while i < bytes.len() {
+fn print_bytes(rt: &impl Print, bytes: &[u8]) -> io::Result<()> {
+    for (i, b) in bytes.iter().enumerate() {
         if 0 < i {
-            io::write_all(STDOUT_FILENO, b" ");
+            rt.write_all(b" ")?;
         }
-        print_byte(bytes[i]);
-        i += 1;
+        print_byte(rt, *b)?;
     }
-    io::write_all(STDOUT_FILENO, b"\n");
+    rt.write_all(b"\n")
 }
 
 // The number with which a feed is refused at its start.
-fn print_refusal(s: &[u8]) {
+fn print_refusal(rt: &impl Print, s: &[u8]) -> io::Result<()> {
     let Reading::Refused(number, _) = feed::read(s, 0) else {
-        return;
+        return Ok(());
     };
-    io::print_decimal(STDOUT_FILENO, number as u64);
-    io::write_all(STDOUT_FILENO, b"\n");
+    rt.println(number)
 }
 
-fn print_entry() {
+fn print_entry(rt: &impl Print) -> io::Result<()> {
     let mut buf = [0u8; 22];
     let span = Interval { start: 10, end: 50 };
     feed_write::write_entry(
@@ -48,31 +45,31 @@ fn print_entry() {
             value: 100,
         },
     );
-    print_bytes(&buf);
+    print_bytes(rt, &buf)
 }
 
-fn print_mark() {
+fn print_mark(rt: &impl Print) -> io::Result<()> {
     let mut buf = [0u8; 10];
     feed_write::write_mark(&mut buf, 1, 30);
-    print_bytes(&buf);
+    print_bytes(rt, &buf)
 }
 
-fn print_close() {
+fn print_close(rt: &impl Print) -> io::Result<()> {
     let mut buf = [0u8; 6];
     feed_write::write_close(&mut buf, 1);
-    print_bytes(&buf);
+    print_bytes(rt, &buf)
 }
 
 // A note, and its text as it is read back.
-fn print_note() {
+fn print_note(rt: &impl Print) -> io::Result<()> {
     let mut buf = [0u8; 8];
     feed_write::write_note(&mut buf, b"lamp");
-    print_bytes(&buf);
-    io::write_all(STDOUT_FILENO, feed::text(&buf, 0));
-    io::write_all(STDOUT_FILENO, b"\n");
+    print_bytes(rt, &buf)?;
+    rt.write_all(feed::text(&buf, 0))?;
+    rt.write_all(b"\n")
 }
 
-fn print_pair() {
+fn print_pair(rt: &impl Print) -> io::Result<()> {
     let mut buf = [0u8; 36];
     let meeting = Interval { start: 20, end: 30 };
     let a = Partner {
@@ -86,15 +83,15 @@ fn print_pair() {
         value: 5,
     };
     feed_write::write_pair(&mut buf, Pair { meeting, a, b });
-    print_bytes(&buf);
+    print_bytes(rt, &buf)
 }
 
-fn main() {
-    print_mark();
-    print_refusal(b"\x08");
-    print_refusal(b"\x00\x00");
-    print_entry();
-    print_close();
-    print_note();
-    print_pair();
+fn main(rt: HostRuntime) -> io::Result<()> {
+    print_mark(&rt)?;
+    print_refusal(&rt, b"\x08")?;
+    print_refusal(&rt, b"\x00\x00")?;
+    print_entry(&rt)?;
+    print_close(&rt)?;
+    print_note(&rt)?;
+    print_pair(&rt)
 }

@@ -12,6 +12,8 @@ use framing::Went;
 use join::Join;
 use pairing::Rule;
 use pipe::Flow;
+use std::io;
+use std::io::{Read, Write};
 use steps::{Counts, ROOM, Stepped, step};
 
 // One step on the bytes of the window that are not used yet, putting behind what is filled of the buffer.
@@ -39,8 +41,16 @@ pub fn step_on(
     step(join, a, b, rows, counts, flow.left, shown, flow.ended, free)
 }
 
+// How many bytes the window has, and the buffer of what is put out.
+const SIZE: usize = 65536;
+
 // Joins the feed that standard input is, up to the limit.
-pub fn join_input(limit: u32) {
+pub fn join_input<R: Read, W: Write, E: Write>(
+    input: &mut R,
+    output: &mut W,
+    errors: &mut E,
+    limit: u32,
+) -> io::Result<()> {
     let mut a = area::no_places();
     let mut b = area::no_places();
     let mut rows = queue::no_places();
@@ -49,8 +59,8 @@ pub fn join_input(limit: u32) {
         records: 0,
         pairs: 0,
     };
-    let mut window = io::large_buffer();
-    let mut out = io::large_buffer();
+    let mut window = [0u8; SIZE];
+    let mut out = [0u8; SIZE];
     let mut flow = Flow::begun(limit);
     loop {
         let stepped = step_on(
@@ -60,11 +70,10 @@ pub fn join_input(limit: u32) {
         counts = stepped.counts;
         let went = stepped.went;
         match went {
-            Went::More => flow = flow.refill(&mut window, &out),
-            Went::On => flow = flow.go_on(&out, stepped.used, stepped.filled, ROOM),
+            Went::More => flow = flow.refill(input, output, &mut window, &out)?,
+            Went::On => flow = flow.go_on(output, &out, stepped.used, stepped.filled, ROOM)?,
             Went::Ended => {
-                flow.finish(&out, stepped.filled, counts.records);
-                return;
+                return flow.finish(output, errors, &out, stepped.filled, counts.records);
             }
         }
     }

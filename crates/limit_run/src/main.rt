@@ -1,12 +1,17 @@
 // joinfeed with a limit that a record crosses; then how many bytes of the input are left for the next reader.
 #![tactic(auto)]
 
-use libc::{STDIN_FILENO, STDOUT_FILENO};
+use std::io;
+use std::io::Read;
 
-fn main() {
-    feed_stream::join_input(90);
-    let mut rest = io::large_buffer();
-    let left = io::read_full(STDIN_FILENO, &mut rest);
-    io::print_decimal(STDOUT_FILENO, left as u64);
-    io::write_all(STDOUT_FILENO, b" bytes are left\n");
+// No more bytes than this are counted.
+const MOST: u64 = 65536;
+
+fn main(rt: HostRuntime) -> io::Result<()> {
+    let mut input = rt.stdin();
+    let mut output = rt.stdout();
+    let mut errors = rt.stderr();
+    feed_stream::join_input(&mut input, &mut output, &mut errors, 90)?;
+    let left = io::copy(&mut input.take(MOST), &mut io::sink())?;
+    println!(rt; "{left} bytes are left")
 }

@@ -2,13 +2,15 @@
 #![tactic(auto)]
 
 ghost use Rattle.std.specs.Prelude.{◌≡◌, ◌≤◌, ◌<◌, length};
+ghost use Rattle.std.specs.Io.{ReadsAtMost};
 
 use feed_stream::step_on;
 use framing::Went;
 use join::Join;
-use libc::{STDIN_FILENO, STDOUT_FILENO};
 use pairing::Rule;
 use pipe::Flow;
+use std::io;
+use std::io::Read;
 use steps::{Counts, READ_LIMIT, ROOM};
 use whole_feed::{Printing, print_feed};
 
@@ -129,34 +131,59 @@ fn put_whole(rule: Rule, feed: &[u8], out: &mut [u8]) -> usize
 }
 
 // Prints what is printed of a feed, and says so where it is another text through windows.
-fn print_both(rule: Rule, feed: &[u8], by_limit: bool, text: &mut [u8], pieces: &mut [u8])
+fn print_both(
+    rt: &impl Print,
+    rule: Rule,
+    feed: &[u8],
+    by_limit: bool,
+    text: &mut [u8],
+    pieces: &mut [u8],
+) -> io::Result<()>
     requires { (length feed.now ≤ 65536) × (length pieces.old ≤ 131072) }
 {
     let whole = put_whole(rule, feed, text);
-    io::write_all(STDOUT_FILENO, &text[..whole]);
+    rt.write_all(&text[..whole])?;
     let put = put_pieces(rule, feed, by_limit, pieces);
     if !same(&text[..whole], &pieces[..put]) {
-        io::write_all(STDOUT_FILENO, b"through windows it is another text\n");
+        rt.write_all(b"through windows it is another text\n")?;
     }
+    Ok(())
 }
 
-fn main() {
-    let mut feed = io::large_buffer();
+// Reads until the buffer is full or the input ends. Answers how many bytes came.
+fn read_full<R: Read>(input: &mut R, buf: &mut [u8]) -> io::Result<usize>
+    ensures { ReadsAtMost result buf.new }
+{
+    let mut done = 0;
+    while done < buf.len() {
+        let got = input.read(&mut buf[done..])?;
+        if got == 0 {
+            break;
+        }
+        done += got;
+    }
+    Ok(done)
+}
+
+fn main(rt: HostRuntime) -> io::Result<()> {
+    let mut input = rt.stdin();
+    let mut feed = [0u8; LONGEST];
     let mut text = no_text();
     let mut pieces = no_text();
     let mut n = 0;
     while n < FEEDS {
         let mut head = [0u8; 12];
-        if io::read_full(STDIN_FILENO, &mut head) < 12 {
-            return;
+        if read_full(&mut input, &mut head)? < 12 {
+            return Ok(());
         }
         let rule = rule_in(number_in(head, 0), number_in(head, 4));
         let size = number_in(head, 8) as usize;
         if LONGEST < size {
-            return;
+            return Ok(());
         }
-        let got = io::read_full(STDIN_FILENO, &mut feed[..size]);
-        print_both(rule, &feed[..got], n % 2 == 0, &mut text, &mut pieces);
+        let got = read_full(&mut input, &mut feed[..size])?;
+        print_both(&rt, rule, &feed[..got], n % 2 == 0, &mut text, &mut pieces)?;
         n += 1;
     }
+    Ok(())
 }

@@ -1,5 +1,5 @@
 -- How far a program is with its input and what it prints, and how a step and a read move it.
-use Rattle.std.specs.Prelude.{ℕ, ◌+◌, ◌-◌, ◌≤◌, ◌<◌, true, false, cond, ◌⊎◌, ◌≡◌, ltb}
+use Rattle.std.specs.Prelude.{ℕ, ◌+◌, ◌-◌, ◌≤◌, ◌<◌, true, false, cond, ◌⊎◌, ◌≡◌, ltb, List, [], length, take}
 use Rattle.pipe.specs.declared.Flow.{Flow}
 
 -- what it keeps, with a window of so many bytes
@@ -18,6 +18,10 @@ begun limit = record { limit = limit; left = limit; at = 0; end = 0; ended = fal
 -- what stays in a buffer of so many bytes that is written when it lacks room
 abbrev pub unwritten : ℕ → ℕ → ℕ → ℕ
 unwritten out room filled = cond (ltb (out - filled) room) 0 filled
+
+-- and what of such a buffer is written
+abbrev pub written : List ℕ → ℕ → ℕ → List ℕ
+written out room filled = cond (ltb (length out - filled) room) (take filled out) []
 
 -- after a step that used and put out so many bytes
 abbrev pub gone : ℕ → ℕ → Flow → ℕ → ℕ → Flow

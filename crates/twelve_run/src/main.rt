@@ -6,8 +6,8 @@ ghost use Rattle.std.specs.Prelude.{◌<◌};
 use interval::Interval;
 use join::{Join, Took};
 use journal::Answer;
-use libc::STDOUT_FILENO;
 use pairing::{Entry, Pair, Rule};
+use std::io;
 
 const A: u32 = 0;
 
@@ -126,81 +126,83 @@ const TABLE: [[u32; 6]; LINES] = [
     [TAKE, 0, 0, 0, 0, 0],
 ];
 
-fn print(text: &[u8]) {
-    io::write_all(STDOUT_FILENO, text);
+fn print(rt: &impl Print, text: &[u8]) -> io::Result<()> {
+    rt.write_all(text)
 }
 
-fn print_number(n: u32) {
-    io::print_decimal(STDOUT_FILENO, n as u64);
+fn print_number(rt: &impl Print, n: u32) -> io::Result<()> {
+    rt.print(n)
 }
 
-fn print_count(n: usize) {
-    io::print_decimal(STDOUT_FILENO, n as u64);
-    print(b".");
+fn print_count(rt: &impl Print, n: usize) -> io::Result<()> {
+    rt.print(n)?;
+    print(rt, b".")
 }
 
-fn print_interval(x: Interval) {
-    print(b"[");
-    print_number(x.start);
-    print(b",");
-    print_number(x.end);
-    print(b")");
+fn print_interval(rt: &impl Print, x: Interval) -> io::Result<()> {
+    print(rt, b"[")?;
+    print_number(rt, x.start)?;
+    print(rt, b",")?;
+    print_number(rt, x.end)?;
+    print(rt, b")")
 }
 
-fn print_stream(stream: u16) {
+fn print_stream(rt: &impl Print, stream: u16) -> io::Result<()> {
     if stream == 0 {
-        print(b" A");
+        print(rt, b" A")
     } else {
-        print(b" B");
+        print(rt, b" B")
     }
 }
 
-fn print_entry(stream: u16, e: Entry) {
-    print_stream(stream);
-    print(b" ");
-    print_interval(e.span);
+fn print_entry(rt: &impl Print, stream: u16, e: Entry) -> io::Result<()> {
+    print_stream(rt, stream)?;
+    print(rt, b" ")?;
+    print_interval(rt, e.span)?;
     if e.key != 1 {
-        print(b" key ");
-        print_number(e.key);
+        print(rt, b" key ")?;
+        print_number(rt, e.key)?;
     }
+    Ok(())
 }
 
-fn print_pair(p: Pair) {
-    print_interval(p.meeting);
-    print(b" ");
-    print_number(p.a.ordinal);
-    print(b"-");
-    print_number(p.b.ordinal);
-    print(b".");
+fn print_pair(rt: &impl Print, p: Pair) -> io::Result<()> {
+    print_interval(rt, p.meeting)?;
+    print(rt, b" ")?;
+    print_number(rt, p.a.ordinal)?;
+    print(rt, b"-")?;
+    print_number(rt, p.b.ordinal)?;
+    print(rt, b".")
 }
 
-fn print_answer(answer: Answer) {
-    print(b": ");
+fn print_answer(rt: &impl Print, answer: Answer) -> io::Result<()> {
+    print(rt, b": ")?;
     match answer {
-        Answer::Accepted => print(b"accepted"),
-        Answer::Refused(number) => print_number(number),
+        Answer::Accepted => print(rt, b"accepted")?,
+        Answer::Refused(number) => print_number(rt, number)?,
     }
-    print(b".");
+    print(rt, b".")
 }
 
-fn print_took(took: Took) {
+fn print_took(rt: &impl Print, took: Took) -> io::Result<()> {
     match took {
-        Took::Handed(p) => print_pair(p),
-        Took::Waiting => print(b"Waiting."),
-        Took::Finished => print(b"Finished."),
-        Took::Refused(number) => print_number(number),
+        Took::Handed(p) => print_pair(rt, p),
+        Took::Waiting => print(rt, b"Waiting."),
+        Took::Finished => print(rt, b"Finished."),
+        Took::Refused(number) => print_number(rt, number),
     }
 }
 
 // The number of an example, and its rule.
-fn print_example(number: u32, width: u32) {
-    print_number(number);
-    print(b".");
+fn print_example(rt: &impl Print, number: u32, width: u32) -> io::Result<()> {
+    print_number(rt, number)?;
+    print(rt, b".")?;
     if 0 < width {
-        print(b" Near, width ");
-        print_number(width);
-        print(b".");
+        print(rt, b" Near, width ")?;
+        print_number(rt, width)?;
+        print(rt, b".")?;
     }
+    Ok(())
 }
 
 fn rule_of(width: u32) -> Rule {
@@ -236,18 +238,19 @@ fn entry_of(line: [u32; 6]) -> Entry {
 }
 
 fn enter(
+    rt: &impl Print,
     join: Join,
     a: &mut area::Places,
     b: &mut area::Places,
     rows: &mut queue::Places,
     stream: u16,
     e: Entry,
-) -> Join {
-    print_entry(stream, e);
+) -> io::Result<Join> {
+    print_entry(rt, stream, e)?;
     let called = join.entry(a, b, rows, stream, e);
     let answer = called.answer;
-    print_answer(answer);
-    called.join
+    print_answer(rt, answer)?;
+    Ok(called.join)
 }
 
 // The same entry so many times.
@@ -280,6 +283,7 @@ fn accepted(join: Join, stream: u16) -> u32 {
 
 // The same entry so many times, and how many entries the journal has accepted then.
 fn enter_many(
+    rt: &impl Print,
     join: Join,
     a: &mut area::Places,
     b: &mut area::Places,
@@ -287,94 +291,103 @@ fn enter_many(
     stream: u16,
     e: Entry,
     times: u32,
-) -> Join {
-    print(b" ");
-    print_number(times);
-    print(b" times");
-    print_entry(stream, e);
+) -> io::Result<Join> {
+    print(rt, b" ")?;
+    print_number(rt, times)?;
+    print(rt, b" times")?;
+    print_entry(rt, stream, e)?;
     let after = enter_times(join, a, b, rows, stream, e, times);
-    print(b": ");
-    print_number(accepted(after, stream));
-    print(b" accepted.");
-    after
+    print(rt, b": ")?;
+    print_number(rt, accepted(after, stream))?;
+    print(rt, b" accepted.")?;
+    Ok(after)
 }
 
 fn mark(
+    rt: &impl Print,
     join: Join,
     a: &mut area::Places,
     b: &mut area::Places,
     rows: &queue::Places,
     stream: u16,
     time: u32,
-) -> Join {
-    print_stream(stream);
-    print(b" mark ");
-    print_number(time);
+) -> io::Result<Join> {
+    print_stream(rt, stream)?;
+    print(rt, b" mark ")?;
+    print_number(rt, time)?;
     let called = join.mark(a, b, rows, stream, time);
     let answer = called.answer;
-    print_answer(answer);
-    called.join
+    print_answer(rt, answer)?;
+    Ok(called.join)
 }
 
 fn close(
+    rt: &impl Print,
     join: Join,
     a: &mut area::Places,
     b: &mut area::Places,
     rows: &queue::Places,
     stream: u16,
-) -> Join {
-    print_stream(stream);
-    print(b" close");
+) -> io::Result<Join> {
+    print_stream(rt, stream)?;
+    print(rt, b" close")?;
     let called = join.close(a, b, rows, stream);
     let answer = called.answer;
-    print_answer(answer);
-    called.join
+    print_answer(rt, answer)?;
+    Ok(called.join)
 }
 
-fn take(join: Join, a: &area::Places, b: &area::Places, rows: &mut queue::Places) -> Join {
-    print(b" Take: ");
+fn take(
+    rt: &impl Print,
+    join: Join,
+    a: &area::Places,
+    b: &area::Places,
+    rows: &mut queue::Places,
+) -> io::Result<Join> {
+    print(rt, b" Take: ")?;
     let taken = join.take(a, b, rows);
     let answer = taken.answer;
-    print_took(answer);
-    taken.join
+    print_took(rt, answer)?;
+    Ok(taken.join)
 }
 
 // What waits, and what is held.
-fn show(join: Join, rows: &queue::Places, line: [u32; 6]) {
+fn show(rt: &impl Print, join: Join, rows: &queue::Places, line: [u32; 6]) -> io::Result<()> {
     match line[0] {
         WAITING => {
-            print(b" Waiting: ");
-            print_count(join.queue.count);
+            print(rt, b" Waiting: ")?;
+            print_count(rt, join.queue.count)
         }
         PAIR => {
-            print(b" Pair ");
-            print_pair(queue::pair_in(rows[place_of(line[1])]));
+            print(rt, b" Pair ")?;
+            print_pair(rt, queue::pair_in(rows[place_of(line[1])]))
         }
         _ => {
-            print(b" Area A: ");
-            print_count(join.a.area.count);
+            print(rt, b" Area A: ")?;
+            print_count(rt, join.a.area.count)
         }
     }
 }
 
 // One line of an example, on the join as the line before left it.
 fn call(
+    rt: &impl Print,
     join: Join,
     a: &mut area::Places,
     b: &mut area::Places,
     rows: &mut queue::Places,
     line: [u32; 6],
-) -> Join {
+) -> io::Result<Join> {
     let stream = stream_of(line[1]);
     match line[0] {
-        ENTRY => enter(join, a, b, rows, stream, entry_of(line)),
-        ENTRIES => enter_many(join, a, b, rows, stream, entry_of(line), line[5]),
-        MARK => mark(join, a, b, rows, stream, line[2]),
-        CLOSE => close(join, a, b, rows, stream),
-        TAKE => take(join, a, b, rows),
+        ENTRY => enter(rt, join, a, b, rows, stream, entry_of(line)),
+        ENTRIES => enter_many(rt, join, a, b, rows, stream, entry_of(line), line[5]),
+        MARK => mark(rt, join, a, b, rows, stream, line[2]),
+        CLOSE => close(rt, join, a, b, rows, stream),
+        TAKE => take(rt, join, a, b, rows),
         _ => {
-            show(join, rows, line);
-            join
+            show(rt, join, rows, line)?;
+            Ok(join)
         }
     }
 }
@@ -385,7 +398,7 @@ fn line_at(i: usize) -> [u32; 6]
     TABLE[i]
 }
 
-fn main() {
+fn main(rt: HostRuntime) -> io::Result<()> {
     let mut a = area::no_places();
     let mut b = area::no_places();
     let mut rows = queue::no_places();
@@ -395,17 +408,17 @@ fn main() {
         let line = line_at(i);
         if line[0] == EXAMPLE {
             if 0 < i {
-                print(b"\n");
+                print(&rt, b"\n")?;
             }
             a = area::no_places();
             b = area::no_places();
             rows = queue::no_places();
             join = Join::fresh(rule_of(line[2]));
-            print_example(line[1], line[2]);
+            print_example(&rt, line[1], line[2])?;
         } else {
-            join = call(join, &mut a, &mut b, &mut rows, line);
+            join = call(&rt, join, &mut a, &mut b, &mut rows, line)?;
         }
         i += 1;
     }
-    print(b"\n");
+    print(&rt, b"\n")
 }
