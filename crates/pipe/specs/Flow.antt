@@ -1,5 +1,6 @@
 -- How far a program is with its input and what it prints, and how a step and a read move it.
-use Rattle.std.specs.Prelude.{ℕ, ◌+◌, ◌-◌, ◌≤◌, ◌<◌, true, false, cond, ◌⊎◌, ◌≡◌, ltb, List, [], length, take}
+use Rattle.std.specs.Prelude.{ℕ, ◌+◌, ◌-◌, ◌≤◌, ◌<◌, true, false, cond, ◌⊎◌, ◌≡◌, ltb, List, [], ◌∷◌, ◌++◌, length, take, Bool, ◌==◌, codes}
+use Rattle.std.specs.Fmt.{decimal}
 use Rattle.pipe.specs.declared.Flow.{Flow}
 
 -- what it keeps, with a window of so many bytes
@@ -37,3 +38,13 @@ pub record Refilled (flow : Flow) (window : ℕ) (next : Flow) : Type 0 where
   -- a read that brings nothing is the last
   pub more : (next.ended ≡ true) ⊎ (flow.end - flow.at < next.end)
   pub written : next.filled ≡ 0
+
+-- the last line of a feed that ended in `done`, and no line, need no telling
+abbrev pub needs_no_telling : List ℕ → Bool
+needs_no_telling [] = true
+needs_no_telling (letter ∷ others) = letter == 100
+
+-- where a feed stopped, for standard error: the number of the record that comes next, the byte at which it begins, and the last line again
+abbrev pub told : ℕ → ℕ → List ℕ → List ℕ
+told records byte last =
+    cond (needs_no_telling last) [] (codes "record " ++ (decimal (records + 1) ++ (codes " byte " ++ (decimal byte ++ (codes ": " ++ last)))))

@@ -6,7 +6,7 @@
 ghost use Rattle.std.specs.Prelude.{◌≡◌, true, ◌++◌, ◌+◌, ◌-◌, ◌≤◌, ◌<◌, ◌⊎◌, length, take, drop, IfOk, OnOk, OnErr};
 ghost use Rattle.std.specs.Io.KnownBytes.{Appends, Consumes, IsAtEnd};
 ghost use Rattle.std.proofs.Math.Seq.{slice};
-ghost use Rattle.pipe.specs.Flow.{Flowing, Refilled, begun, gone, unwritten, written};
+ghost use Rattle.pipe.specs.Flow.{Flowing, Refilled, begun, gone, told, unwritten, written};
 
 use framing::least;
 use std::io;
@@ -85,7 +85,9 @@ fn read_behind<R: Read>(
 }
 
 // Where a feed stopped that did not end in `done`, for standard error: the number of the record that comes next, the byte at which it begins, and the last line again.
-fn tell_place<E: Write>(errors: &mut E, records: u32, byte: usize, last: &[u8]) -> io::Result<()> {
+fn tell_place<E: Write>(errors: &mut E, records: u32, byte: usize, last: &[u8]) -> io::Result<()>
+    ensures { OnOk result (Appends (E.contents errors.old) (E.contents errors.new) (told records byte last.now)) }
+{
     if last.len() == 0 || last[0] == b'd' {
         return Ok(());
     }
@@ -165,7 +167,8 @@ impl Flow {
         records: u32,
     ) -> io::Result<()>
         requires { (self.filled + last ≤ length out.now) × (self.left ≤ self.limit) }
-        ensures { OnOk result (Appends (W.contents output.old) (W.contents output.new) (take (self.filled + last) out.now)) }
+        ensures written { OnOk result (Appends (W.contents output.old) (W.contents output.new) (take (self.filled + last) out.now)) }
+        ensures told { OnOk result (Appends (E.contents errors.old) (E.contents errors.new) (told records (self.limit - self.left) (slice self.filled (self.filled + last) out.now))) }
     {
         let from = self.filled;
         let filled = from + last;
