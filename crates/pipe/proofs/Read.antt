@@ -1,5 +1,5 @@
--- Parts of a list that are lent: what a read into a part of a window leaves in the window, where the bytes that it brought stand from the part's begin on; and a part that is only looked at.
-use Rattle.std.proofs.Common.{◌≡◌, ℕ, ◌+◌, ◌≤◌, List, ◌++◌, length, take, drop, Result, Ok, Err, IfOk, Option, sym, ap, subst, ◌∙◌, ◌-◌, arith}
+-- What a read into a part of a window leaves in the window: the bytes that it brought stand where the part begins.
+use Rattle.std.proofs.Common.{◌≡◌, ℕ, ◌+◌, ◌≤◌, List, ◌++◌, length, take, Result, Ok, Err, IfOk, Option, sym, ap, subst, ◌∙◌}
 use Rattle.std.specs.Io.{ReadsAtMost}
 use Rattle.std.specs.Io.KnownBytes.{Consumes, ReadConsumes}
 use Rattle.std.proofs.Math.Seq.{slice}
@@ -16,9 +16,3 @@ pub consumes_part : {E : Type 0} (k : ℕ) (window part behind : List ℕ) (old 
     → IfOk r (λ n. Consumes old new (slice k (k + n) (take k window ++ (part ++ behind))))
 consumes_part k window part behind old new (Ok n) some few c = subst (λ (bs : List ℕ). Consumes old new bs) (sym (read_part k n window part behind some few.0)) c.0
 consumes_part k window part behind old new (Err e) some few c = tt
-
--- `&xs[from..end]`
-pub lent_part : {X : Type 0} (from end : ℕ) (xs : List X) → from ≤ end → take (end - from) (drop from xs) ≡ slice from end xs
-lent_part from end xs order =
-    let up : from + (end - from) ≡ end = omega arith in
-    sym (drop-take from (end - from) xs) ∙ ap (λ (m : ℕ). slice from m xs) up
