@@ -22,7 +22,6 @@ const FLAGS: [&str; 11] = [
 ];
 
 pub struct Kit {
-    /// The part of the kit that is for this machine.
     folder: PathBuf,
 }
 
@@ -32,9 +31,7 @@ impl Kit {
         let rt = in_path("rt").ok_or(missing)?;
         let rt = rt.canonicalize().map_err(|_| missing)?;
         let kit = rt.ancestors().nth(2).ok_or(missing)?;
-        Ok(Kit {
-            folder: kit.join("on").join(std::env::consts::ARCH),
-        })
+        Ok(Kit { folder: kit.into() })
     }
 
     fn toolchain(&self) -> PathBuf {

@@ -26,7 +26,7 @@ use time::Times;
 const SIZES: [(u32, u32); 4] = [(1_000, 200), (10_000, 100), (100_000, 40), (2_000_000, 12)];
 
 const USAGE: &str = "\
-give nothing, to measure target/bin/joinfeed, or the path of one program to measure in its place";
+give nothing, to measure joinfeed, or the path of one program to measure in its place";
 
 /// What was measured on one feed. Of two numbers the first is joinfeed's, the
 /// second the baseline's.
@@ -107,16 +107,20 @@ fn measured(root: &Path) -> Result<PathBuf, String> {
 
 /// joinfeed, proved and built first where that was not done.
 fn joinfeed(root: &Path) -> Result<PathBuf, String> {
-    let program = root.join("target/bin/joinfeed");
+    let joinfeed = root.join("crates/joinfeed");
+    let program = joinfeed.join("out/joinfeed");
     if !program.exists() {
         eprintln!("joinfeed is proved and built first, which takes some minutes");
+        // rt builds a program to run it: here on no feed.
         let built = Command::new("rt")
-            .args(["check", "joinfeed"])
-            .current_dir(root)
+            .arg("run")
+            .current_dir(joinfeed)
+            .stdin(Stdio::null())
             .stdout(Stdio::null())
+            .stderr(Stdio::null())
             .status();
         if !built.is_ok_and(|status| status.success()) {
-            return Err("joinfeed cannot be built; run `rt check joinfeed` to see why".to_string());
+            return Err("joinfeed cannot be built; bin/joinfeed shows why".to_string());
         }
     }
     Ok(program)
