@@ -106,17 +106,7 @@ fn put_pieces(rule: Rule, feed: &[u8], by_limit: bool, out: &mut [u8]) -> usize
 }
 
 fn same(a: &[u8], b: &[u8]) -> bool {
-    if a.len() != b.len() {
-        return false;
-    }
-    let mut i = 0;
-    while i < a.len() {
-        if a[i] != b[i] {
-            return false;
-        }
-        i += 1;
-    }
-    true
+    a == b
 }
 
 // Joins a feed whole. Answers how many bytes were put out: none where they do not fit, which is not what must be printed.
@@ -170,8 +160,7 @@ fn main(rt: HostRuntime) -> io::Result<()> {
     let mut feed = [0u8; LONGEST];
     let mut text = no_text();
     let mut pieces = no_text();
-    let mut n = 0;
-    while n < FEEDS {
+    for n in 0..FEEDS {
         let mut head = [0u8; 12];
         if read_full(&mut input, &mut head)? < 12 {
             return Ok(());
@@ -183,7 +172,6 @@ fn main(rt: HostRuntime) -> io::Result<()> {
         }
         let got = read_full(&mut input, &mut feed[..size])?;
         print_both(&rt, rule, &feed[..got], n % 2 == 0, &mut text, &mut pieces)?;
-        n += 1;
     }
     Ok(())
 }

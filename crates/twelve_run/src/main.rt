@@ -264,11 +264,9 @@ fn enter_times(
     times: u32,
 ) -> Join {
     let mut after = join;
-    let mut i = 0;
-    while i < times {
+    for _ in 0..times {
         let called = after.entry(a, b, rows, stream, e);
         after = called.join;
-        i += 1;
     }
     after
 }
@@ -403,8 +401,7 @@ fn main(rt: HostRuntime) -> io::Result<()> {
     let mut b = area::no_places();
     let mut rows = queue::no_places();
     let mut join = Join::fresh(Rule::Equal);
-    let mut i = 0;
-    while i < LINES {
+    for i in 0..LINES {
         let line = line_at(i);
         if line[0] == EXAMPLE {
             if 0 < i {
@@ -418,7 +415,6 @@ fn main(rt: HostRuntime) -> io::Result<()> {
         } else {
             join = call(&rt, join, &mut a, &mut b, &mut rows, line)?;
         }
-        i += 1;
     }
     print(&rt, b"\n")
 }
