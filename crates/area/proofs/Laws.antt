@@ -1,14 +1,14 @@
 -- Laws of an area: rows and the entries in them, and what clearing leaves.
-use Prim.Native.Nat.{ℕ, zero, suc, ◌-◌, ◌≤◌, min}
+use Prim.Native.Nat.{ℕ, zero, suc, ◌-◌, ◌≤◌, ◌<◌, min}
 use native.Mathlib.Nat.{zero-min, min-zero, suc-min-suc}
 use native.Mathlib.Omega.{arith}
-use mathlib.Core.Bool.{true, ◌&&◌}
+use mathlib.Core.Bool.{true, false, ◌&&◌}
 use mathlib.Core.List.{List, [], ◌∷◌, ◌++◌, map}
 use mathlib.Core.Path.{◌≡◌, refl, sym, ap, ◌∙◌}
 use lib.Dec.{leb}
 use lib.ListN.{length, replicate, take, drop, length-map}
 use lib.Seq.{length-take-le}
-use borrow.Author.Tests.{leb-true}
+use borrow.Author.Tests.{leb-true, lt-leb}
 use Rattle.lists.specs.Judge.{all_of, chain}
 use Rattle.lists.specs.Keep.{keep}
 use Rattle.lists.specs.Store.{Rows, is_blank}
@@ -48,6 +48,10 @@ pub sound_rows : (rule : Rule) (own : Journal) (other : Gate) (area : Area) (row
 unfolding sound_area
 sound_rows rule own other area rows =
     rw (all_of_map held_in (sound_entry rule own other) (take area.count rows), chain_map held_in follows (take area.count rows))
+
+-- more entries than an area may hold are not sound
+pub too_many : (rule : Rule) (own : Journal) (other : Gate) (area : Area) (rows : Rows) → most < area.count → false ≡ sound_area rule own other area rows
+too_many rule own other area rows h = rw (sound_rows rule own other area rows, lt-leb area.count most h)
 
 -- what a sound area has
 pub area_passes : (rule : Rule) (own : Journal) (other : Gate) (area : Area) (rows : Rows) → sound_area rule own other area rows ≡ true

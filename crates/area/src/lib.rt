@@ -262,6 +262,7 @@ impl Area {
     }
 
     // Is the state of the area sound, beside the rule, its own journal and the other's gate? Then its places store just what it holds.
+    #[tactic(auto, using(crate::proofs::Laws::too_many))]
     pub fn sound(self, rows: &Places, rule: Rule, own: Journal, other: Gate) -> bool
         ensures value { result ≡ sound_area rule own other self rows.now }
         ensures holds { result ≡ true → Holds self rows.now }

@@ -25,6 +25,7 @@ pub fn least(a: usize, b: usize) -> usize
 }
 
 // Does a window show all that can matter to the record that stands first in it?
+#[tactic(auto, using(crate::proofs::Telling::told_by_end, crate::proofs::Telling::told_by_limit, crate::proofs::Telling::told_by_length, crate::proofs::Telling::told_by_record))]
 pub fn tells(left: usize, window: &[u8], ended: bool) -> bool
     ensures { result ≡ tells left window.now ended }
 {

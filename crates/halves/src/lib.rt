@@ -66,6 +66,7 @@ fn hold_wanted(area: Area, rows: &mut area::Places, x: Numbered, other: Gate) ->
 
 impl Halves {
     // What refuses an entry for want of room, where it forms so many new pairs.
+    #[tactic(auto, using(crate::proofs::Room::area_full, crate::proofs::Room::queue_full, crate::proofs::Room::queue_full_unwanted, crate::proofs::Room::free, crate::proofs::Room::free_unwanted))]
     pub fn room_answer(self, e: Entry, new: usize) -> Answer
         requires { (self.queue.count ≤ the_queue.places) × (new ≤ the_area.places) }
         ensures { result ≡ first_of (room_for (wanted self.other.journal.gate e) self.own.area.count (self.queue.count + new)) }

@@ -134,6 +134,7 @@ impl Join {
     }
 
     // Is the state sound?
+    #[tactic(auto, using(crate::proofs::Judging::too_many_a, crate::proofs::Judging::too_many_b))]
     pub fn sound(self, a: &area::Places, b: &area::Places, rows: &queue::Places) -> bool
         ensures value { result ≡ sound (state_with self a.now b.now rows.now) }
         ensures sound { result ≡ true → Sound (state_with self a.now b.now rows.now) }

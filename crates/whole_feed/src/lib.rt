@@ -78,6 +78,7 @@ fn put_steps(rule: Rule, feed: &[u8], out: &mut [u8]) -> usize
 }
 
 // What is printed of a feed, joined by a rule: into the buffer from its first byte on, if it has room for all of it. It is counted first, so that a buffer that is too short is not touched.
+#[tactic(auto, using(crate::proofs::Lent::too_short, crate::proofs::Lent::none_back))]
 pub fn print_feed(rule: Rule, feed: &[u8], out: &mut [u8]) -> Printing
     ensures { printout result out.new ≡ printing rule feed.now out.old }
 {
