@@ -1,11 +1,12 @@
 // Standard input joined through a window of bounded size, and what is printed of it written to standard output.
 #![tactic(auto)]
 
-ghost use Rattle.std.specs.Prelude.{◌≡◌, false, ◌+◌, ◌-◌, ◌≤◌, ◌<◌, length, take, drop};
+ghost use Rattle.std.specs.Prelude.{◌≡◌, false, ◌+◌, ◌-◌, ◌≤◌, ◌<◌, length, take, drop, IfSome, OnOk};
+ghost use Rattle.std.specs.Io.KnownBytes.{Appends};
 ghost use Rattle.std.proofs.Math.Seq.{slice};
 ghost use Rattle.feed.specs.Kind.{shortest_record, longest_record};
 ghost use Rattle.framing.specs.Step.{stepped};
-ghost use Rattle.steps.specs.Printed.{joinfeed};
+ghost use Rattle.steps.specs.Printed.{joinfeed, printed};
 ghost use Rattle.steps.specs.Step.{effect_with, progress_with, Kept, room};
 
 use framing::Went;
@@ -50,7 +51,9 @@ pub fn join_input<R: Read, W: Write, E: Write>(
     output: &mut W,
     errors: &mut E,
     limit: u32,
-) -> io::Result<()> {
+) -> io::Result<()>
+    ensures { OnOk result (IfSome (R.remaining input.old) (λ feed. Appends (W.contents output.old) (W.contents output.new) (printed Rule.Equal limit feed))) }
+{
     let mut a = area::no_places();
     let mut b = area::no_places();
     let mut rows = queue::no_places();

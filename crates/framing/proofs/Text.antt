@@ -41,7 +41,7 @@ module _ {P : Type 0} (program : Program P) (n : ℕ) (p : P) where
     next_deed used h (Ends lines) = next_ends used lines
     next_deed used h (Goes lines q) = record { lines = lines; front = put_front lines out; long = refl; ended = λ e. ended_is_not_on (sym e); on = λ e. (refl, h.0, h.1) }
 
-    next_done : (r : Reading) → reading rest 0 ≡ r → Next program n rest (continued (printed_from program n) rest (next_of r) (deed program p r)) (done program p out r)
+    pub next_done : (r : Reading) → reading rest 0 ≡ r → Next program n rest (continued (printed_from program n) rest (next_of r) (deed program p r)) (done program p out r)
     next_done (Found found used) e = next_deed used (found_ends rest 0 e) (program.on_record p found)
     next_done (Refused number place) e = next_ends 0 (program.on_refusal p number)
     next_done End e = next_ends 0 (program.on_end p)

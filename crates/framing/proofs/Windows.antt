@@ -43,7 +43,7 @@ module _ (left : ℕ) (w : Window) (input : List ℕ) where
       let first : take n (take left input) ≡ bs = take-take n left input few ∙ sym (take-take n w.size input (omega (arith, length-take w.size input))) ∙ take-length bs in
       ap (reading_from 0) (take_all left bs few ∙ sym first) ∙ reading_shown n (take left input) (shows_elim (take n (take left input)) (ap shows first ∙ h)) 0
 
-  shows_first : tells left bs (ends_in w input) ≡ true → reading (shown left bs) 0 ≡ reading (take left input) 0
+  pub shows_first : tells left bs (ends_in w input) ≡ true → reading (shown left bs) 0 ≡ reading (take left input) 0
   unfolding tells
   shows_first e =
       or_elim (ends_in w input) (leb left (length bs) || shows bs) e

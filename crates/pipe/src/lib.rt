@@ -142,6 +142,7 @@ impl Flow {
         requires { (Flowing self (length window.old)) × (self.filled ≤ length out.now) }
         ensures refilled { IfOk result (Refilled self (length window.new)) }
         ensures window_after { OnOk result (take (self.end - self.at) window.new ≡ slice self.at self.end window.old) }
+        ensures none_lost { IfOk result (λ next. self.end - self.at ≤ next.end) }
         ensures consumed { IfOk result (λ next. Consumes (R.remaining input.old) (R.remaining input.new) (slice (self.end - self.at) next.end window.new)) }
         ensures at_end { IfOk result (λ next. next.ended ≡ true → self.end - self.at < self.left → self.end - self.at < length window.old → IsAtEnd (R.remaining input.new)) }
         ensures written { OnOk result (Appends (W.contents output.old) (W.contents output.new) (take self.filled out.now)) }
