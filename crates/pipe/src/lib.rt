@@ -4,7 +4,7 @@
 #![tactic(auto)]
 
 ghost use Rattle.std.specs.Prelude.{◌≡◌, true, ◌++◌, ◌+◌, ◌-◌, ◌≤◌, ◌<◌, ◌⊎◌, length, take, drop, IfOk, OnOk, OnErr};
-ghost use Rattle.std.specs.Io.KnownBytes.{Appends, Consumes, IsAtEnd};
+ghost use Rattle.std.specs.Io.KnownBytes.{Appends, Consumes, IsAtEnd, Keeps};
 ghost use Rattle.std.proofs.Math.Seq.{slice};
 ghost use Rattle.pipe.specs.Flow.{Flowing, Refilled, begun, gone, told, unwritten, written};
 
@@ -76,6 +76,7 @@ fn read_behind<R: Read>(
     ensures window_after { take (end - at) window.new ≡ slice at end window.old }
     ensures consumed { IfOk result (λ got. Consumes (R.remaining input.old) (R.remaining input.new) (slice (end - at) ((end - at) + got) window.new)) }
     ensures at_end { IfOk result (λ got. got ≡ 0 → end - at < left → end - at < length window.old → IsAtEnd (R.remaining input.new)) }
+    ensures input_kept { OnErr result (Keeps (R.remaining input.old) (R.remaining input.new)) }
 {
     move_front(window, at, end);
     let kept = end - at;
@@ -131,7 +132,7 @@ impl Flow {
         Ok(self)
     }
 
-    // After a step that was shown too little: it waits for input with nothing left to write. Where the read or the write fails, what is not used still stands in the window, where it stood or at the front.
+    // After a step that was shown too little: it waits for input with nothing left to write. Where the read or the write fails, no byte of the input is lost, and what is not used still stands in the window, where it stood or at the front.
     pub fn refill<R: Read, W: Write>(
         mut self,
         input: &mut R,
@@ -146,6 +147,7 @@ impl Flow {
         ensures consumed { IfOk result (λ next. Consumes (R.remaining input.old) (R.remaining input.new) (slice (self.end - self.at) next.end window.new)) }
         ensures at_end { IfOk result (λ next. next.ended ≡ true → self.end - self.at < self.left → self.end - self.at < length window.old → IsAtEnd (R.remaining input.new)) }
         ensures written { OnOk result (Appends (W.contents output.old) (W.contents output.new) (take self.filled out.now)) }
+        ensures input_kept { OnErr result (Keeps (R.remaining input.old) (R.remaining input.new)) }
         ensures unused_kept { OnErr result ((window.new ≡ window.old) ⊎ (take (self.end - self.at) window.new ≡ slice self.at self.end window.old)) }
     {
         let filled = self.filled;
