@@ -1,4 +1,4 @@
--- What a loop of steps over a flow keeps, with a large buffer as its window and one for what is put out; and why it ends: each step uses some of the input, or a read shows more of it or its end.
+-- What a loop of steps over a flow keeps, with a window and a buffer for what is put out, of one size; and why it ends: each step uses some of the input, or a read shows more of it or its end.
 use Prim.Native.Nat.{ℕ, suc, ◌+◌, ◌-◌, ◌*◌, ◌≤◌, ◌<◌}
 use native.Mathlib.Omega.{arith}
 use mathlib.Core.Bool.{Bool, true, false, false≢true, true≢false}
@@ -9,7 +9,7 @@ use lib.ListN.{length}
 use Rattle.pipe.specs.declared.Flow.{Flow}
 use Rattle.pipe.specs.Flow.{Flowing, Refilled, begun, gone}
 
--- how many bytes a large buffer has
+-- how many bytes the window has, and the buffer
 abbrev pub size : ℕ
 size = 65536
 
