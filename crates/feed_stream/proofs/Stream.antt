@@ -2,24 +2,22 @@
 use Prim.Native.Nat.{ℕ, zero, suc, ◌+◌, ◌-◌, ◌≤◌, ◌<◌}
 use native.Mathlib.Omega.{arith}
 use mathlib.Core.Bool.{Bool, true, false, cond, ◌&&◌, ◌||◌, true≢false}
-use mathlib.Core.List.{List, [], ◌∷◌, ◌++◌, append_assoc, append-nil}
+use mathlib.Core.List.{List, [], ◌++◌, append_assoc, append-nil}
 use mathlib.Core.Path.{◌≡◌, refl, sym, ap, subst, ◌∙◌}
 use lib.Dec.{leb, ltb}
-use lib.ListN.{length, take, drop, length-append, length-take, length-drop}
+use lib.ListN.{length, take, drop, length-append, length-drop}
 use lib.Seq.{slice, take_at, length-slice, drop-drop, take-add}
-use borrow.Author.Tests.{leb-true, leb-false}
+use borrow.Author.Tests.{leb-false}
 use Rattle.std.proofs.Common.{Option, None, Some, IfSome, Result, Ok, Err, OnOk}
 use Rattle.std.proofs.lemmas.Bool.{le-leb}
 use Rattle.std.specs.Io.KnownBytes.{Appends, Consumes, IsAtEnd}
 use Rattle.std.proofs.KnownBytes.{Appends-nil, Appends-trans}
 use Rattle.std.proofs.lemmas.List.{drop-append-le, drop-take}
-use Rattle.feed.specs.Kind.{shortest_record}
 use Rattle.feed.specs.Reading.{shows, reading}
 use Rattle.feed.proofs.Fields.{drop_first}
-use Rattle.framing.specs.declared.Went.{Went}
 use Rattle.framing.specs.declared.Went.TheVariants.{More, On, Ended}
 use Rattle.framing.specs.Shown.{shown, tells}
-use Rattle.framing.specs.Program.{Deed, Ends, Goes, Program, next_of, deed, printed_from, printed_by}
+use Rattle.framing.specs.Program.{Deed, Ends, Goes, Program, deed, printed_from, printed_by}
 use Rattle.framing.specs.Step.{Effect, effect_of, done, waits, stepped}
 use Rattle.framing.specs.Windows.{Window, bytes_in, ends_in}
 use Rattle.framing.proofs.Moves.{moves}
@@ -90,10 +88,14 @@ module _ {P : Type 0} (program : Program P) (p : P) (left : ℕ) (window rest : 
 abbrev pub unused : Flow → List ℕ → List ℕ
 unused flow window = slice flow.at flow.end window
 
--- How a run stands that began with nothing written, where the bytes are known that the reader has left: `left_over` are those, `before` what the writer held when it began, and `now` what it holds.
-pub record Streamed {P : Type 0} (program : Program P) (text : List ℕ) (flow : Flow) (window out : List ℕ) (p : P) (left_over before now : Option (List ℕ)) : Type 0 where
+-- How a run stands that began with nothing written, from a feed of which so many bytes may be read, and where the bytes are known that the reader has left: `left_over` are those, `before` what the writer held when it began, and `now` what it holds.
+pub record Streamed {P : Type 0} (program : Program P) (text : List ℕ) (limit : ℕ) (feed : List ℕ) (flow : Flow) (window out : List ℕ) (p : P) (left_over before now : Option (List ℕ)) : Type 0 where
   pub rest : List ℕ
   pub unread : left_over ≡ Some rest
+  -- what was read
+  pub read : List ℕ
+  pub whole : feed ≡ read ++ rest
+  pub counted : length read + flow.left ≡ limit + (flow.end - flow.at)
   -- what was written
   pub done : List ℕ
   pub put : Appends before now done
@@ -102,11 +104,14 @@ pub record Streamed {P : Type 0} (program : Program P) (text : List ℕ) (flow :
   pub goes : text ≡ (done ++ take flow.filled out) ++ printed_from program (suc records) p (take flow.left (unused flow window ++ rest))
   pub at_end : flow.ended ≡ true → rest ≡ []
 
-pub streamed_begun : {P : Type 0} (program : Program P) (p : P) (limit : ℕ) (feed window out : List ℕ) (writer : Option (List ℕ)) → Streamed program (printed_by program p limit feed) (pipe.begun limit) window out p (Some feed) writer writer
+pub streamed_begun : {P : Type 0} (program : Program P) (p : P) (limit : ℕ) (feed window out : List ℕ) (writer : Option (List ℕ)) → Streamed program (printed_by program p limit feed) limit feed (pipe.begun limit) window out p (Some feed) writer writer
 unfolding printed_by
 streamed_begun program p limit feed window out writer = record {
   rest = feed;
   unread = refl;
+  read = [];
+  whole = refl;
+  counted = omega arith;
   done = [];
   put = Appends-nil writer;
   records = length (take limit feed);
@@ -125,13 +130,16 @@ unread_after : (old new : Option (List ℕ)) (rest bytes : List ℕ) → old ≡
 unread_after old None rest bytes e c = absurd (subst (λ (o : Option (List ℕ)). Consumes o None bytes) e c)
 unread_after old (Some after) rest bytes e c = (after, refl, subst (λ (o : Option (List ℕ)). Consumes o (Some after) bytes) e c)
 
-module _ {P : Type 0} (program : Program P) {text : List ℕ} {flow : Flow} {window out : List ℕ} {p : P} {left_over before now : Option (List ℕ)} (s : Streamed program text flow window out p left_over before now)
+module _ {P : Type 0} (program : Program P) {text : List ℕ} {limit : ℕ} {feed : List ℕ} {flow : Flow} {window out : List ℕ} {p : P} {left_over before now : Option (List ℕ)} (s : Streamed program text limit feed flow window out p left_over before now)
     (order : flow.at ≤ flow.end) (within : flow.end ≤ length window)
     (e : Effect P) (same : e ≡ stepped program p flow.left (unused flow window) flow.ended (drop flow.filled out))
     (after : List ℕ) (front : take flow.filled after ≡ take flow.filled out) (back : drop flow.filled after ≡ e.buffer)
   where
     abbrev input : List ℕ
     input = take flow.left (unused flow window ++ s.rest)
+
+    shown_long : length (unused flow window) ≡ flow.end - flow.at
+    shown_long = length-slice flow.at flow.end window within
 
     step : (e.went ≡ More → ⊥) → Next program s.records input (printed_from program (suc s.records) p input) e
     step on = next_seen program p flow.left (unused flow window) s.rest flow.ended (drop flow.filled out) s.at_end e same s.records on
@@ -147,10 +155,10 @@ module _ {P : Type 0} (program : Program P) {text : List ℕ} {flow : Flow} {win
         ∙ ap (take (flow.left - e.used)) (drop-append-le e.used (unused flow window) s.rest shown ∙ ap (λ (l : List ℕ). l ++ s.rest) (drop-drop e.used flow.at (take flow.end window)))
 
     pub streamed_on : e.went ≡ On → (room : ℕ) (next : Flow) (after_it : Option (List ℕ)) → next ≡ gone (length after) room flow e.used e.filled → Appends now after_it (written after room (flow.filled + e.filled))
-        → Streamed program text next window after e.progress left_over before after_it
-    streamed_on is room next after_it f put = subst (λ (x : Flow). Streamed program text x window after e.progress left_over before after_it) (sym f) (go s.records refl (step (λ more. on_is_not_more (sym is ∙ more))))
+        → Streamed program text limit feed next window after e.progress left_over before after_it
+    streamed_on is room next after_it f put = subst (λ (x : Flow). Streamed program text limit feed x window after e.progress left_over before after_it) (sym f) (go s.records refl (step (λ more. on_is_not_more (sym is ∙ more))))
       where
-        go : (n : ℕ) → s.records ≡ n → Next program s.records input (printed_from program (suc s.records) p input) e → Streamed program text (gone (length after) room flow e.used e.filled) window after e.progress left_over before after_it
+        go : (n : ℕ) → s.records ≡ n → Next program s.records input (printed_from program (suc s.records) p input) e → Streamed program text limit feed (gone (length after) room flow e.used e.filled) window after e.progress left_over before after_it
         go zero g t =
             let few = s.few in
             let moved = t.on is in
@@ -165,6 +173,14 @@ module _ {P : Type 0} (program : Program P) {text : List ℕ} {flow : Flow} {win
             record {
               rest = s.rest;
               unread = s.unread;
+              read = s.read;
+              whole = s.whole;
+              counted =
+                  let many = s.counted in
+                  let shown = shown_long in
+                  let used = m.in_window in
+                  let used_left = m.in_left in
+                  omega arith;
               done = s.done ++ written after room k;
               put = Appends-trans before now after_it s.done (written after room k) s.put put;
               records = n;
@@ -197,7 +213,7 @@ module _ {P : Type 0} (program : Program P) {text : List ℕ} {flow : Flow} {win
           (last : next.ended ≡ true → flow.end - flow.at < flow.left → IsAtEnd unread_then)
           (put : Appends now after_it (take flow.filled after))
         where
-          pub streamed_more : Streamed program text next window_after after e.progress unread_then before after_it
+          pub streamed_more : Streamed program text limit feed next window_after after e.progress unread_then before after_it
           streamed_more =
               let kept_many = flow.end - flow.at in
               let came = slice kept_many next.end window_after in
@@ -216,11 +232,18 @@ module _ {P : Type 0} (program : Program P) {text : List ℕ} {flow : Flow} {win
               let held = (s.done ++ take flow.filled after) ++ take next.filled after in
               let held_so : s.done ++ take flow.filled out ≡ held =
               ap (λ (l : List ℕ). s.done ++ l) (sym front) ∙ sym (append-nil (s.done ++ take flow.filled after)) ∙ ap (λ (n : ℕ). (s.done ++ take flow.filled after) ++ take n after) (sym refilled.written) in
-              let shown_long : length (unused flow window) ≡ kept_many = length-slice flow.at flow.end window within in
               let less = more_so.2 in
               record {
                 rest = then.0;
                 unread = then.1;
+                read = s.read ++ came;
+                whole = s.whole ∙ ap (λ (l : List ℕ). s.read ++ l) then.2 ∙ sym (append_assoc s.read came then.0);
+                counted =
+                    let many = s.counted in
+                    let left = refilled.left in
+                    let shown = refilled.flowing in
+                    let came_many = length-slice kept_many next.end window_after shown.in_window in
+                    simp length-append (omega arith);
                 done = s.done ++ take flow.filled after;
                 put = Appends-trans before now after_it s.done (take flow.filled after) s.put put;
                 records = s.records;
@@ -230,19 +253,32 @@ module _ {P : Type 0} (program : Program P) {text : List ℕ} {flow : Flow} {win
                     ∙ ap (λ (l : List ℕ). l ++ printed_from program (suc s.records) p input) held_so
                     ∙ ap (λ (q : P). held ++ printed_from program (suc s.records) q input) (sym more_so.0)
                     ∙ ap (λ (l : List ℕ). held ++ printed_from program (suc s.records) e.progress l) (sym rests);
-                at_end = λ ended. subst IsAtEnd then.1 (last ended (omega arith));
+                at_end = λ ended. subst IsAtEnd then.1 (last ended (let long = shown_long in omega arith));
               }
 
 -- ---- where the bytes are known
 
 pub streamed_if : {P : Type 0} (program : Program P) (begun : P) (limit : ℕ) (window out : List ℕ) (known writer : Option (List ℕ)) (flow : Flow) (p : P) → flow ≡ pipe.begun limit → p ≡ begun
-    → IfSome known (λ feed. Streamed program (printed_by program begun limit feed) flow window out p known writer writer)
+    → IfSome known (λ feed. Streamed program (printed_by program begun limit feed) limit feed flow window out p known writer writer)
 streamed_if program begun limit window out None writer flow p f e = tt
 streamed_if {P} program begun limit window out (Some feed) writer flow p f e =
     subst
-    (λ (x : Flow). Streamed program (printed_by program begun limit feed) x window out p (Some feed) writer writer)
+    (λ (x : Flow). Streamed program (printed_by program begun limit feed) limit feed x window out p (Some feed) writer writer)
     (sym f)
-    (subst (λ (q : P). Streamed program (printed_by program begun limit feed) (pipe.begun limit) window out q (Some feed) writer writer) (sym e) (streamed_begun program begun limit feed window out writer))
+    (subst (λ (q : P). Streamed program (printed_by program begun limit feed) limit feed (pipe.begun limit) window out q (Some feed) writer writer) (sym e) (streamed_begun program begun limit feed window out writer))
+
+-- no more is read than the limit
+pub streamed_read : {P : Type 0} (program : Program P) {text : List ℕ} {limit : ℕ} {feed : List ℕ} {flow : Flow} {window out : List ℕ} {p : P} {left_over before now : Option (List ℕ)}
+    → Streamed program text limit feed flow window out p left_over before now → flow.end - flow.at ≤ flow.left
+    → (read : List ℕ) × (length read ≤ limit) × Consumes (Some feed) left_over read
+streamed_read program {feed = feed} s few =
+    let many = s.counted in
+    (s.read, omega arith, subst (λ (o : Option (List ℕ)). Consumes (Some feed) o s.read) (sym s.unread) s.whole)
+
+pub read_few : (limit : ℕ) (known left_over : Option (List ℕ)) → IfSome known (λ feed. (read : List ℕ) × (length read ≤ limit) × Consumes (Some feed) left_over read)
+    → (read : List ℕ) × (length read ≤ limit) × Consumes known left_over read
+read_few limit None left_over h = ([], omega arith, tt)
+read_few limit (Some feed) left_over h = h
 
 pub if_some : {T : Type 0} (known : Option T) {P Q : T → Type 0} → ((x : T) → P x → Q x) → IfSome known P → IfSome known Q
 if_some None f h = tt

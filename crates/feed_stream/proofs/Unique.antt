@@ -1,4 +1,4 @@
--- The contract of `step_on` allows one answer, one join, one pair of counts and one content of the places and of the buffer that it is lent. What `join_input` does is reading and writing, of which no contract can say anything: it is an exception.
+-- The contract of `step_on` allows one answer, one join, one pair of counts and one content of the places and of the buffer that it is lent. What `join_input` answers is how its reads and writes went, which no contract determines: it is an exception.
 use Prim.Native.Nat.{ℕ}
 use mathlib.Core.List.{List}
 use Rattle.unique.specs.Unique.{OneOutcome}

@@ -1,8 +1,8 @@
 // Standard input joined through a window of bounded size, and what is printed of it written to standard output.
 #![tactic(auto)]
 
-ghost use Rattle.std.specs.Prelude.{◌≡◌, false, ◌+◌, ◌-◌, ◌≤◌, ◌<◌, length, take, drop, IfSome, OnOk};
-ghost use Rattle.std.specs.Io.KnownBytes.{Appends};
+ghost use Rattle.std.specs.Prelude.{◌≡◌, ℕ, List, false, ◌+◌, ◌-◌, ◌≤◌, ◌<◌, length, take, drop, IfSome, OnOk};
+ghost use Rattle.std.specs.Io.KnownBytes.{Appends, Consumes};
 ghost use Rattle.std.proofs.Math.Seq.{slice};
 ghost use Rattle.feed.specs.Kind.{shortest_record, longest_record};
 ghost use Rattle.framing.specs.Step.{stepped};
@@ -52,7 +52,8 @@ pub fn join_input<R: Read, W: Write, E: Write>(
     errors: &mut E,
     limit: u32,
 ) -> io::Result<()>
-    ensures { OnOk result (IfSome (R.remaining input.old) (λ feed. Appends (W.contents output.old) (W.contents output.new) (printed Rule.Equal limit feed))) }
+    ensures written { OnOk result (IfSome (R.remaining input.old) (λ feed. Appends (W.contents output.old) (W.contents output.new) (printed Rule.Equal limit feed))) }
+    ensures in_limit { OnOk result ((bytes : List ℕ) × (length bytes ≤ limit) × Consumes (R.remaining input.old) (R.remaining input.new) bytes) }
 {
     let mut a = area::no_places();
     let mut b = area::no_places();

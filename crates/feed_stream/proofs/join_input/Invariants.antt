@@ -12,7 +12,7 @@ invariant-loop-input g l =
     record {
       kept : Kept (progress_with l.join l.a l.b l.rows l.counts) l.flow.left;
       piped : Piped l.flow l.window l.out room;
-      streamed : IfSome (g.R.Read.remaining l.fn.input) (λ feed. Streamed joinfeed (printed Equal l.limit feed) l.flow l.window l.out (progress_with l.join l.a l.b l.rows l.counts) (g.R.Read.remaining l.input) (g.W.Write.contents l.fn.output) (g.W.Write.contents l.output));
+      streamed : IfSome (g.R.Read.remaining l.fn.input) (λ feed. Streamed joinfeed (printed Equal l.limit feed) l.limit feed l.flow l.window l.out (progress_with l.join l.a l.b l.rows l.counts) (g.R.Read.remaining l.input) (g.W.Write.contents l.fn.output) (g.W.Write.contents l.output));
     }
 
 abbrev pub decreases-loop-input : goal.decreases-loop-input
