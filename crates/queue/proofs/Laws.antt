@@ -7,7 +7,7 @@ use mathlib.Core.Logic.{◌⊎◌, inl, inr}
 use mathlib.Core.Path.{◌≡◌, refl, sym, ap, ◌∙◌}
 use lib.Dec.{leb}
 use lib.ListN.{length, replicate, take, drop, get_or, length-map, length-drop, drop_of_length-le}
-use lib.Seq.{slice, length-take-le}
+use lib.Seq.{slice, get_or-take, length-take-le}
 use borrow.Author.Tests.{leb-true}
 use Rattle.lists.specs.Judge.{all_of, chain}
 use Rattle.lists.specs.Keep.{keep}
@@ -17,7 +17,7 @@ use Rattle.lists.proofs.All.{All, each_map, each_mapped}
 use Rattle.lists.proofs.Array.{Shaped}
 use Rattle.lists.proofs.First.{Down, fails_on, keep_first}
 use Rattle.lists.proofs.InPlace.{moved_padded, padded_over}
-use Rattle.lists.proofs.Judge.{Passes, passes, all_of_all, all_of_map, chain_map, chain_each}
+use Rattle.lists.proofs.Judge.{Passes, passes, all_of_all, all_of_map, chain_map, chain_each, chain_fails}
 use Rattle.lists.proofs.Order.{StrictOrder, Ascending}
 use Rattle.lists.proofs.Sort.{insert_all_by_length}
 use Rattle.lists.proofs.Store.{content_at, stores_length, stores_rows, stores_rest, content_length, stores_judged}
@@ -193,3 +193,11 @@ module _ (queue : Queue) (rows : Rows) (h : Holds queue rows) where
   merged_count new =
       let n : queue.count + length new ≡ length (insert_all_by comes_before new (waiting queue rows)) = sym (insert_all_by_length comes_before new (waiting queue rows) ∙ omega (arith, waiting_length)) in
       ap (λ (m : ℕ). record { count = m }) n
+
+-- where a pair does not come before the next, not every pair of the first n does
+pub order_fails : (rows : Rows) (n i : ℕ) → 0 < i → i < n → n ≤ length rows → comes_before (pair_in (get_or rows (i - 1) [])) (pair_in (get_or rows i [])) ≡ false → false ≡ chain row_before (take n rows)
+order_fails rows n i some inside few f =
+    sym (chain_fails row_before (take n rows) i [] some (omega (arith, length-take-le n rows few))
+    (ap (λ (x : List ℕ). row_before x (get_or (take n rows) i [])) (get_or-take n rows (i - 1) [] (omega arith))
+    ∙ ap (row_before (get_or rows (i - 1) [])) (get_or-take n rows i [] inside)
+    ∙ f))

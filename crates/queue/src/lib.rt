@@ -160,6 +160,7 @@ fn pairs_sound(rows: &Places, n: usize, of_a: u32, of_b: u32) -> bool
 }
 
 // Does every waiting pair come before the next?
+#[tactic(auto, using(crate::proofs::Laws::order_fails))]
 fn in_order(rows: &Places, n: usize) -> bool
     requires { (n ≤ places) × (length rows.now ≡ places) }
     ensures { result ≡ chain (λ x y. comes_before (pair_in x) (pair_in y)) (take n rows.now) }
