@@ -20,18 +20,12 @@ use Rattle.framing.specs.Shown.{shown, tells}
 use Rattle.framing.specs.Program.{Deed, Ends, Goes, Program, deed, printed_from, printed_by}
 use Rattle.framing.specs.Step.{Effect, effect_of, done, waits, stepped}
 use Rattle.framing.specs.Windows.{Window, bytes_in, ends_in}
-use Rattle.framing.proofs.Moves.{moves}
+use Rattle.framing.proofs.Moves.{moves, on_is_not_more, ended_is_not_more}
 use Rattle.framing.proofs.Text.{Next, next_done}
 use Rattle.framing.proofs.Windows.{shows_first}
 use Rattle.pipe.specs.declared.Flow.{Flow}
-use Rattle.pipe.specs.Flow.{Refilled, gone, written}
+use Rattle.pipe.specs.Flow.{Refilled, gone, written_bytes}
 use Rattle.pipe.specs.Flow as pipe
-
-ended_is_not_more : {P : Type 0} → Ended ≡ More → P
-ended_is_not_more e = absurd (let z : ◌≡◌ {A = ℕ} 0 1 = cc in omega arith)
-
-on_is_not_more : {P : Type 0} → On ≡ More → P
-on_is_not_more e = absurd (let z : ◌≡◌ {A = ℕ} 0 1 = cc in omega arith)
 
 -- ---- a step that is shown the first bytes of what is left of the input
 
@@ -154,7 +148,7 @@ module _ {P : Type 0} (program : Program P) {text : List ℕ} {limit : ℕ} {fee
         drop_first e.used flow.left (unused flow window ++ s.rest) few
         ∙ ap (take (flow.left - e.used)) (drop-append-le e.used (unused flow window) s.rest shown ∙ ap (λ (l : List ℕ). l ++ s.rest) (drop-drop e.used flow.at (take flow.end window)))
 
-    pub streamed_on : e.went ≡ On → (room : ℕ) (next : Flow) (after_it : Option (List ℕ)) → next ≡ gone (length after) room flow e.used e.filled → Appends now after_it (written after room (flow.filled + e.filled))
+    pub streamed_on : e.went ≡ On → (room : ℕ) (next : Flow) (after_it : Option (List ℕ)) → next ≡ gone (length after) room flow e.used e.filled → Appends now after_it (written_bytes after room (flow.filled + e.filled))
         → Streamed program text limit feed next window after e.progress left_over before after_it
     streamed_on is room next after_it f put = subst (λ (x : Flow). Streamed program text limit feed x window after e.progress left_over before after_it) (sym f) (go s.records refl (step (λ more. on_is_not_more (sym is ∙ more))))
       where
@@ -181,8 +175,8 @@ module _ {P : Type 0} (program : Program P) {text : List ℕ} {limit : ℕ} {fee
                   let used = m.in_window in
                   let used_left = m.in_left in
                   omega arith;
-              done = s.done ++ written after room k;
-              put = Appends-trans before now after_it s.done (written after room k) s.put put;
+              done = s.done ++ written_bytes after room k;
+              put = Appends-trans before now after_it s.done (written_bytes after room k) s.put put;
               records = n;
               few = rw (sym rests) (simp length-drop (omega arith));
               goes =
@@ -191,8 +185,8 @@ module _ {P : Type 0} (program : Program P) {text : List ℕ} {limit : ℕ} {fee
                   ∙ sym (append_assoc (s.done ++ take flow.filled out) t.lines _)
                   ∙ ap (λ (l : List ℕ). l ++ printed_from program s.records e.progress (drop e.used input))
                   (append_assoc s.done (take flow.filled out) t.lines ∙ ap (λ (l : List ℕ). s.done ++ l) (sym (filled_so t.lines t.front)) ∙ sym (both_kept b k s.done after))
-                  ∙ ap (λ (r : ℕ). ((s.done ++ written after room k) ++ take (pipe.unwritten (length after) room k) after) ++ printed_from program r e.progress (drop e.used input)) g
-                  ∙ ap (λ (l : List ℕ). ((s.done ++ written after room k) ++ take (pipe.unwritten (length after) room k) after) ++ printed_from program (suc n) e.progress l) rests;
+                  ∙ ap (λ (r : ℕ). ((s.done ++ written_bytes after room k) ++ take (pipe.unwritten (length after) room k) after) ++ printed_from program r e.progress (drop e.used input)) g
+                  ∙ ap (λ (l : List ℕ). ((s.done ++ written_bytes after room k) ++ take (pipe.unwritten (length after) room k) after) ++ printed_from program (suc n) e.progress l) rests;
               at_end = s.at_end;
             }
 

@@ -45,7 +45,7 @@ pub fn step_on(
 // How many bytes the window has, and the buffer of what is put out.
 const SIZE: usize = 65536;
 
-// Joins the feed that standard input is, up to the limit.
+// Joins the feed that the input is, up to the limit, and writes what is printed of it; where it stopped short of `done`, `errors` is told.
 pub fn join_input<R: Read, W: Write, E: Write>(
     input: &mut R,
     output: &mut W,

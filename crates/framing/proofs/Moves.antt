@@ -35,10 +35,10 @@ put_fits : (lines out : List ℕ) → length (put 0 lines out) ≡ length out �
 unfolding put
 put_fits lines out e = let long = simp (length-append, length-take, length-drop) at e in omega arith
 
-on_is_not_more : {P : Type 0} → On ≡ More → P
+pub on_is_not_more : {P : Type 0} → On ≡ More → P
 on_is_not_more e = absurd (let z : ◌≡◌ {A = ℕ} 0 1 = cc in omega arith)
 
-ended_is_not_more : {P : Type 0} → Ended ≡ More → P
+pub ended_is_not_more : {P : Type 0} → Ended ≡ More → P
 ended_is_not_more e = absurd (let z : ◌≡◌ {A = ℕ} 0 1 = cc in omega arith)
 
 pub ended_is_not_on : {P : Type 0} → Ended ≡ On → P

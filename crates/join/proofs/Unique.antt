@@ -28,7 +28,7 @@ use Rattle.join.proofs.Join.entry_on.Reads as entry-on
 use Rattle.join.proofs.Join.mark_on.Reads as mark_on
 use Rattle.join.proofs.Join.close_on.Reads as close-on
 use Rattle.join.proofs.Join.take_on.Reads as take_on
-use Rattle.join.proofs.Join.ready_on.Reads as Ready-on
+use Rattle.join.proofs.Join.ready_on.Reads as ready_on
 use Rattle.join.proofs.Join.drop_on.Reads as drop-on
 
 one_side_of : OneResult side-of.Post
@@ -79,7 +79,7 @@ one_close_on κs args x y left other p q = one_moved args.0.queue p.0.2 x y _ _ 
 one_take_on : OneOutcome {Seen = Taken × Rows} (λ κs r left. (r, left.1.0.now)) take_on.Post
 one_take_on κs args x y left other p q = let e = agree (p [] []) (q [] []) in λ i. (record { answer = (e i).answer; join = (e i).state.join }, (e i).state.rows)
 
-one_ready_on : OneResult Ready-on.Post
+one_ready_on : OneResult ready_on.Post
 one_ready_on κs args x y left other p q = agree p.0 q.0
 
 one_drop_on : OneOutcome {Seen = Join × Rows} (λ κs r left. (r, left.1.0.now)) drop-on.Post

@@ -21,8 +21,8 @@ abbrev pub unwritten : ℕ → ℕ → ℕ → ℕ
 unwritten out room filled = cond (ltb (out - filled) room) 0 filled
 
 -- and what of such a buffer is written
-abbrev pub written : List ℕ → ℕ → ℕ → List ℕ
-written out room filled = cond (ltb (length out - filled) room) (take filled out) []
+abbrev pub written_bytes : List ℕ → ℕ → ℕ → List ℕ
+written_bytes out room filled = cond (ltb (length out - filled) room) (take filled out) []
 
 -- after a step that used and put out so many bytes
 abbrev pub gone : ℕ → ℕ → Flow → ℕ → ℕ → Flow

@@ -6,7 +6,7 @@
 ghost use Rattle.std.specs.Prelude.{◌≡◌, true, ◌++◌, ◌+◌, ◌-◌, ◌≤◌, ◌<◌, ◌⊎◌, length, take, drop, IfOk, OnOk, OnErr};
 ghost use Rattle.std.specs.Io.KnownBytes.{Appends, Consumes, IsAtEnd, Keeps};
 ghost use Rattle.std.proofs.Math.Seq.{slice};
-ghost use Rattle.pipe.specs.Flow.{Flowing, Refilled, begun, gone, told, unwritten, written};
+ghost use Rattle.pipe.specs.Flow.{Flowing, Refilled, begun, gone, told, unwritten, written_bytes};
 
 use framing::least;
 use std::io;
@@ -40,7 +40,7 @@ fn write_out<W: Write>(output: &mut W, text: &[u8]) -> io::Result<()>
 fn make_room<W: Write>(output: &mut W, out: &[u8], filled: usize, room: usize) -> io::Result<usize>
     requires { (filled ≤ length out.now) × (room ≤ length out.now) }
     ensures has_room { IfOk result (λ n. (n + room ≤ length out.now) × (n ≡ unwritten (length out.now) room filled)) }
-    ensures written { OnOk result (Appends (W.contents output.old) (W.contents output.new) (written out.now room filled)) }
+    ensures written { OnOk result (Appends (W.contents output.old) (W.contents output.new) (written_bytes out.now room filled)) }
     ensures was_full { OnErr result (length out.now - filled < room) }
 {
     if out.len() - filled < room {
@@ -123,7 +123,7 @@ impl Flow {
     ) -> io::Result<Self>
         requires { (self.at + used ≤ self.end) × (used ≤ self.left) × (self.filled + filled ≤ length out.now) × (room ≤ length out.now) }
         ensures gone { IfOk result (λ next. (next.filled + room ≤ length out.now) × (next ≡ gone (length out.now) room self used filled)) }
-        ensures written { OnOk result (Appends (W.contents output.old) (W.contents output.new) (written out.now room (self.filled + filled))) }
+        ensures written { OnOk result (Appends (W.contents output.old) (W.contents output.new) (written_bytes out.now room (self.filled + filled))) }
         ensures was_full { OnErr result (length out.now - (self.filled + filled) < room) }
     {
         self.left -= used;

@@ -1,4 +1,4 @@
--- `entries_sound` meets its contract. While it runs, the first i entries are sound.
+-- `entries_sound` meets its contract.
 use Prim.Native.Nat.{ℕ}
 use native.Mathlib.Omega.{arith}
 use mathlib.Core.List.{List, []}

@@ -1,4 +1,4 @@
--- `in_order` meets its contract. While it runs, the first i entries follow one another.
+-- `in_order` meets its contract.
 use Prim.Native.Nat.{ℕ, ◌-◌}
 use native.Mathlib.Omega.{arith}
 use mathlib.Core.List.{List, []}

@@ -1,4 +1,4 @@
--- `in_order` meets its contract. While it runs, the first i entries follow one another.
+-- While it runs, the first i entries follow one another.
 use Prim.Native.Nat.{ℕ, ◌≤◌, ◌-◌, max}
 use mathlib.Core.Bool.{true}
 use mathlib.Core.List.{List}

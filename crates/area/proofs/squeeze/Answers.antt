@@ -1,4 +1,4 @@
--- `squeeze` meets its contract. While it runs, the first `kept` rows are the wanted ones of the first i, and those from i on are as they were.
+-- `squeeze` meets its contract.
 use Prim.Native.Nat.{ℕ, ◌<◌}
 use native.Mathlib.Omega.{arith}
 use mathlib.Core.Bool.{Bool}

@@ -1,4 +1,4 @@
--- `squeeze` meets its contract. While it runs, the first `kept` rows are the wanted ones of the first i, and those from i on are as they were.
+-- While it runs, the first `kept` rows are the wanted ones of the first i, and those from i on are as they were.
 use Prim.Native.Nat.{ℕ, ◌≤◌, ◌-◌}
 use mathlib.Core.List.{List}
 use mathlib.Core.Path.{◌≡◌}

@@ -1,4 +1,4 @@
--- `places` meets its contract. The invariant of its loop: the limit is ten to the power k, and the number has at least k digits. The measure is what is left of 20.
+-- `places` meets its contract.
 use Prim.Native.Nat.{ℕ, ◌^◌}
 use native.Mathlib.Nat.{pow-suc, pow-le-pow_right}
 use native.Mathlib.Numerals.{add-one}

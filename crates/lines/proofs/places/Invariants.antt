@@ -1,4 +1,4 @@
--- `places` meets its contract. The invariant of its loop: the limit is ten to the power k, and the number has at least k digits. The measure is what is left of 20.
+-- The invariant of its loop: the limit is ten to the power k, and the number has at least k digits. The measure is what is left of 20.
 use Prim.Native.Nat.{◌-◌, ◌^◌, ◌≤◌, ◌<◌}
 use mathlib.Core.Path.{◌≡◌}
 use lib.ListN.{length}

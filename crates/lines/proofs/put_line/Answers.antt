@@ -1,4 +1,4 @@
--- `put_line` meets its contract. The invariant of its loop: the numbers from i on make the whole line, put in behind those before. The measure is what is left of the numbers before the last.
+-- `put_line` meets its contract.
 use Prim.Native.Nat.{ℕ, ◌+◌, ◌-◌}
 use native.Mathlib.Omega.{arith}
 use mathlib.Core.List.{List}

@@ -1,4 +1,4 @@
--- `put_line` meets its contract. The invariant of its loop: the numbers from i on make the whole line, put in behind those before. The measure is what is left of the numbers before the last.
+-- The invariant of its loop: the numbers from i on make the whole line, put in behind those before. The measure is what is left of the numbers before the last.
 use Prim.Native.Nat.{◌+◌, ◌-◌, ◌≤◌}
 use mathlib.Core.Path.{◌≡◌}
 use lib.ListN.{length, drop}

@@ -1,4 +1,4 @@
--- `put_number` meets its contract. The invariant of its loop: the digits that are still to be put in make the whole. The measure is how many they are.
+-- `put_number` meets its contract.
 use Prim.Native.Nat.{ℕ, suc, ◌+◌, ◌-◌, ◌*◌, ◌/◌, ◌%◌, ◌^◌, ◌≤◌, ◌<◌}
 use native.Mathlib.Nat.{mul-add-mod_self_left, div-div-eq-div-mul, pow-suc}
 use native.Mathlib.Omega.{arith}

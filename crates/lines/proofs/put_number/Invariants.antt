@@ -1,4 +1,4 @@
--- `put_number` meets its contract. The invariant of its loop: the digits that are still to be put in make the whole. The measure is how many they are.
+-- The invariant of its loop: the digits that are still to be put in make the whole. The measure is how many they are.
 use Prim.Native.Nat.{◌-◌, ◌^◌, ◌≤◌, ◌<◌}
 use mathlib.Core.Path.{◌≡◌}
 use lib.ListN.{length}

@@ -1,4 +1,4 @@
--- `put_text` meets its contract. The invariant of its loop: the first i bytes of the text are put in. The measure is what is left of the text.
+-- `put_text` meets its contract.
 use native.Mathlib.Numerals.{add-one}
 use native.Mathlib.Omega.{arith}
 use mathlib.Core.Path.{◌≡◌, refl, ◌∙◌}

@@ -1,4 +1,4 @@
--- `put_text` meets its contract. The invariant of its loop: the first i bytes of the text are put in. The measure is what is left of the text.
+-- The invariant of its loop: the first i bytes of the text are put in. The measure is what is left of the text.
 use Prim.Native.Nat.{◌-◌, ◌≤◌}
 use mathlib.Core.Path.{◌≡◌}
 use lib.ListN.{length}

@@ -1,4 +1,4 @@
--- `blank` meets its contract. While it runs, the places from `from` up to i hold zeros and the others are as they were.
+-- `blank` meets its contract.
 use Prim.Native.Nat.{ℕ, ◌-◌}
 use native.Mathlib.Omega.{arith}
 use mathlib.Core.List.{◌++◌}

@@ -1,4 +1,4 @@
--- `blank` meets its contract. While it runs, the places from `from` up to i hold zeros and the others are as they were.
+-- While it runs, the places from `from` up to i hold zeros and the others are as they were.
 use Prim.Native.Nat.{◌≤◌, ◌-◌}
 use mathlib.Core.List.{◌++◌}
 use mathlib.Core.Path.{◌≡◌}

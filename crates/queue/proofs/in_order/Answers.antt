@@ -1,4 +1,4 @@
--- `in_order` meets its contract. While it runs, each of the first i pairs comes before the next.
+-- `in_order` meets its contract.
 use Prim.Native.Nat.{◌-◌}
 use native.Mathlib.Omega.{arith}
 use mathlib.Core.List.{[]}

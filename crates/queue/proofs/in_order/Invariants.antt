@@ -1,4 +1,4 @@
--- `in_order` meets its contract. While it runs, each of the first i pairs comes before the next.
+-- While it runs, each of the first i pairs comes before the next.
 use Prim.Native.Nat.{◌≤◌, ◌-◌, max}
 use mathlib.Core.Bool.{true}
 use mathlib.Core.Path.{◌≡◌}

@@ -1,4 +1,4 @@
--- `move_down` meets its contract. While it runs, the rows from k up to i stand in front.
+-- `move_down` meets its contract.
 use Prim.Native.Nat.{ℕ, ◌+◌, ◌-◌}
 use native.Mathlib.Omega.{arith}
 use mathlib.Core.List.{[], ◌++◌}

@@ -1,4 +1,4 @@
--- `move_down` meets its contract. While it runs, the rows from k up to i stand in front.
+-- While it runs, the rows from k up to i stand in front.
 use Prim.Native.Nat.{◌-◌, ◌≤◌}
 use mathlib.Core.List.{◌++◌}
 use mathlib.Core.Path.{◌≡◌}

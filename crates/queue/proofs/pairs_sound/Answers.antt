@@ -1,4 +1,4 @@
--- `pairs_sound` meets its contract. While it runs, the first i pairs are sound.
+-- `pairs_sound` meets its contract.
 use Prim.Native.Nat.{ℕ}
 use native.Mathlib.Omega.{arith}
 use mathlib.Core.List.{List, []}

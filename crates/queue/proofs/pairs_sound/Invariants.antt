@@ -1,4 +1,4 @@
--- `pairs_sound` meets its contract. While it runs, the first i pairs are sound.
+-- While it runs, the first i pairs are sound.
 use Prim.Native.Nat.{ℕ, ◌≤◌, ◌-◌}
 use mathlib.Core.Bool.{true}
 use mathlib.Core.List.{List}

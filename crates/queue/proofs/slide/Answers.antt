@@ -1,4 +1,4 @@
--- `slide` meets its contract. While it runs, the pairs above k have been moved up, and p comes before each of them.
+-- `slide` meets its contract.
 use Prim.Native.Nat.{ℕ, suc, ◌-◌, ◌≤◌}
 use native.Mathlib.Omega.{arith}
 use mathlib.Core.Bool.{true, false}

@@ -1,4 +1,4 @@
--- `slide` meets its contract. While it runs, the pairs above k have been moved up, and p comes before each of them.
+-- While it runs, the pairs above k have been moved up, and p comes before each of them.
 use Rattle.lists.proofs.Merge.{Sliding}
 use Rattle.pairing.specs.Numbers.{pair_numbers}
 use Rattle.queue.proofs.Laws.{row_before}

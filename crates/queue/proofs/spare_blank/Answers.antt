@@ -1,4 +1,4 @@
--- `spare_blank` meets its contract. While it runs, the spare places before i hold zeros.
+-- `spare_blank` meets its contract.
 use native.Mathlib.Omega.{arith}
 use mathlib.Core.List.{[]}
 use mathlib.Core.Path.{sym, ap, ◌∙◌}

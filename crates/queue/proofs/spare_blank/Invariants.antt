@@ -1,4 +1,4 @@
--- `spare_blank` meets its contract. While it runs, the spare places before i hold zeros.
+-- While it runs, the spare places before i hold zeros.
 use Prim.Native.Nat.{◌≤◌, ◌-◌}
 use mathlib.Core.Bool.{true}
 use mathlib.Core.Path.{◌≡◌}

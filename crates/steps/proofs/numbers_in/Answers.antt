@@ -1,4 +1,4 @@
--- `numbers_in` meets its contract. The invariant of its loop: the first i numbers are the row's. The measure is how many are left.
+-- `numbers_in` meets its contract.
 use Prim.Native.Nat.{ℕ}
 use native.Mathlib.Numerals.{add-one}
 use native.Mathlib.Omega.{arith}

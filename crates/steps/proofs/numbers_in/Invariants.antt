@@ -1,4 +1,4 @@
--- `numbers_in` meets its contract. The invariant of its loop: the first i numbers are the row's. The measure is how many are left.
+-- The invariant of its loop: the first i numbers are the row's. The measure is how many are left.
 use Prim.Native.Nat.{◌-◌, ◌≤◌}
 use mathlib.Core.Path.{◌≡◌}
 use lib.ListN.{length, take}

@@ -1,4 +1,4 @@
--- `put_pairs` meets its contract. The invariant of its loop: the lines of the first i pairs are put in. The measure is how many are left.
+-- `put_pairs` meets its contract.
 use Prim.Native.Nat.{◌+◌}
 use native.Mathlib.Omega.{arith}
 use mathlib.Core.List.{[], flat_map}

@@ -1,4 +1,4 @@
--- `put_pairs` meets its contract. The invariant of its loop: the lines of the first i pairs are put in. The measure is how many are left.
+-- The invariant of its loop: the lines of the first i pairs are put in. The measure is how many are left.
 use Prim.Native.Nat.{◌-◌, ◌*◌, ◌≤◌}
 use mathlib.Core.List.{flat_map}
 use mathlib.Core.Path.{◌≡◌}

@@ -1,4 +1,4 @@
--- `put_steps` meets its contract: each step puts out what comes next of the text. The invariant of its loop: the run is kept and stands so far in the text, and the places are within the feed and the limit. The measure is what is left of the limit.
+-- `put_steps` meets its contract: each step puts out what comes next of the text.
 use Prim.Native.Nat.{ℕ, ◌+◌, ◌-◌, ◌≤◌}
 use native.Mathlib.Omega.{arith}
 use mathlib.Core.Bool.{true, true≢false}

@@ -1,4 +1,4 @@
--- `put_steps` meets its contract: each step puts out what comes next of the text. The invariant of its loop: the run is kept and stands so far in the text, and the places are within the feed and the limit. The measure is what is left of the limit.
+-- The invariant of its loop: the run is kept and stands so far in the text, and the places are within the feed and the limit. The measure is what is left of the limit.
 use Prim.Native.Nat.{◌+◌, ◌*◌, ◌≤◌}
 use mathlib.Core.Path.{◌≡◌}
 use lib.ListN.{length, take, drop}

@@ -1,4 +1,4 @@
--- `last_partner` meets its contract. While it runs, none from i on is a partner, so the last one stands below i.
+-- `last_partner` meets its contract.
 use Prim.Native.Nat.{ℕ, ◌-◌, ◌+◌, ◌<◌}
 use native.Mathlib.Omega.{arith}
 use mathlib.Core.List.{List}

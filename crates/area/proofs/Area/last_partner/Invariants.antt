@@ -1,4 +1,4 @@
--- `last_partner` meets its contract. While it runs, none from i on is a partner, so the last one stands below i.
+-- While it runs, none from i on is a partner, so the last one stands below i.
 use Prim.Native.Nat.{◌<◌, ◌≤◌}
 use mathlib.Core.Path.{◌≡◌}
 use lib.ListN.{length, take}

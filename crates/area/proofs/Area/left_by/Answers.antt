@@ -1,4 +1,4 @@
--- `left_by` meets its contract. While it runs, it has counted those of the first i entries that the gate wants.
+-- `left_by` meets its contract.
 use Prim.Native.Nat.{ℕ, ◌+◌, ◌<◌}
 use native.Mathlib.Omega.{arith}
 use mathlib.Core.Path.{refl, sym, ap, ◌∙◌}

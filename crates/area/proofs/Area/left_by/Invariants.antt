@@ -1,4 +1,4 @@
--- `left_by` meets its contract. While it runs, it has counted those of the first i entries that the gate wants.
+-- While it runs, it has counted those of the first i entries that the gate wants.
 use Prim.Native.Nat.{◌≤◌, ◌-◌}
 use mathlib.Core.Path.{◌≡◌}
 use lib.ListN.{length, take}

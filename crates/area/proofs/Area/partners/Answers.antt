@@ -1,4 +1,4 @@
--- `partners` meets its contract. While it runs, it has counted those of the first i entries that pair.
+-- `partners` meets its contract.
 use Prim.Native.Nat.{ℕ, ◌+◌, ◌<◌}
 use native.Mathlib.Omega.{arith}
 use mathlib.Core.Path.{refl, sym, ap, ◌∙◌}

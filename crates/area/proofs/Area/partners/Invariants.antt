@@ -1,4 +1,4 @@
--- `partners` meets its contract. While it runs, it has counted those of the first i entries that pair.
+-- While it runs, it has counted those of the first i entries that pair.
 use Prim.Native.Nat.{◌≤◌, ◌-◌}
 use mathlib.Core.Path.{◌≡◌}
 use lib.ListN.{length, take}

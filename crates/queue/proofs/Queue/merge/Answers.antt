@@ -1,4 +1,4 @@
--- `merge` meets its contract. While it runs, the pairs of the held entries from i on are in their places; `gap` pairs and w waiting ones are left.
+-- `merge` meets its contract.
 use Prim.Native.Nat.{ℕ, ◌+◌, ◌-◌, ◌≤◌}
 use native.Mathlib.Omega.{arith}
 use mathlib.Core.Bool.{Bool, true}

@@ -1,4 +1,4 @@
--- `merge` meets its contract. While it runs, the pairs of the held entries from i on are in their places; `gap` pairs and w waiting ones are left.
+-- While it runs, the pairs of the held entries from i on are in their places; `gap` pairs and w waiting ones are left.
 use Rattle.lists.proofs.Merge.{Merging}
 use Rattle.pairing.proofs.Arrival.{pairing}
 use Rattle.area.specs.Area as area

@@ -1,4 +1,4 @@
--- `ready` meets its contract. While it runs, the first k pairs are ready; those behind one that is not ready are not ready either.
+-- `ready` meets its contract.
 use Prim.Native.Nat.{ℕ}
 use native.Mathlib.Omega.{arith}
 use mathlib.Core.List.{List, []}

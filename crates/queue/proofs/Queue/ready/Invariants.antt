@@ -1,4 +1,4 @@
--- `ready` meets its contract. While it runs, the first k pairs are ready; those behind one that is not ready are not ready either.
+-- While it runs, the first k pairs are ready; those behind one that is not ready are not ready either.
 use Prim.Native.Nat.{ℕ, ◌-◌, ◌≤◌}
 use mathlib.Core.Bool.{true}
 use mathlib.Core.List.{List}
