@@ -10,7 +10,7 @@ use lib.ListN.{length, replicate, take, drop, length-map}
 use lib.Seq.{length-take-le}
 use borrow.Author.Tests.{leb-true, lt-leb}
 use Rattle.lists.specs.Judge.{all_of, chain}
-use Rattle.lists.specs.Keep.{keep}
+use Rattle.std.specs.Prelude.{filter}
 use Rattle.lists.specs.Store.{Rows, is_blank}
 use Rattle.lists.proofs.Array.{Shaped}
 use Rattle.lists.proofs.InPlace.{padded_part}
@@ -83,7 +83,7 @@ module _ (area : Area) (rows : Rows) (h : Holds area rows) where
   holds_length = stores_length held_in row_of places width area.count rows h
 
   -- the squeezed rows, with zeros behind them, store what is wanted
-  pub cleared : (gate : Gate) (kept : ℕ) (squeezed left : Rows) → kept ≤ area.count → take kept squeezed ≡ keep (λ (row : List ℕ). wanted gate (held_in row).entry) (take area.count rows)
+  pub cleared : (gate : Gate) (kept : ℕ) (squeezed left : Rows) → kept ≤ area.count → take kept squeezed ≡ filter (λ (row : List ℕ). wanted gate (held_in row).entry) (take area.count rows)
       → drop area.count squeezed ≡ drop area.count rows → length squeezed ≡ places
       → left ≡ take kept squeezed ++ (replicate (area.count - kept) (replicate width 0) ++ drop area.count squeezed)
       → (record { count = kept } ≡ area_of (wanted_by gate (held area rows))) × (left ≡ rows_of (wanted_by gate (held area rows)))

@@ -2,7 +2,7 @@
 use Rattle.std.specs.Prelude.{ℕ, Bool, ◌&&◌, List, [], ◌∷◌, ltb, leb, length, drop, get_or}
 use Rattle.interval.specs.Interval.{proper_of}
 use Rattle.lists.specs.Judge.{all_of, chain}
-use Rattle.lists.specs.Keep.{keep}
+use Rattle.std.specs.Prelude.{filter}
 use Rattle.lists.specs.Store.{Rows, is_blank, content, stored, Stores}
 use Rattle.pairing.specs.declared.Entry.{Entry}
 use Rattle.pairing.specs.declared.Numbered.{Numbered}
@@ -52,11 +52,11 @@ Holds area rows = Stores held_in row_of places width area.count rows
 
 -- the entries that pair with e, whichever journal it is of: to pair is the same either way round
 abbrev pub partners : Rule → Entry → List Numbered → List Numbered
-partners rule e xs = keep (λ (x : Numbered). pairs rule e x.entry) xs
+partners rule e xs = filter (λ (x : Numbered). pairs rule e x.entry) xs
 
 -- the entries that a gate of the other journal wants
 abbrev pub wanted_by : Gate → List Numbered → List Numbered
-wanted_by gate xs = keep (λ (x : Numbered). wanted gate x.entry) xs
+wanted_by gate xs = filter (λ (x : Numbered). wanted gate x.entry) xs
 
 -- Held entries are proper, wanted, with ordinals below the journal's count and starts that, if their journal is open, do not pass its clock. Under near none has a key of 36,000 or more.
 abbrev pub sound_entry : Rule → Journal → Gate → Numbered → Bool

@@ -3,7 +3,8 @@
 
 ghost use Rattle.std.specs.Prelude.{◌≡◌, true, [], ◌∷◌, ◌++◌, ◌-◌, ◌≤◌, ◌<◌, length, take, drop, get_or, replicate};
 ghost use Rattle.lists.specs.Judge.{all_of, chain};
-ghost use Rattle.lists.specs.Keep.{keep, last_place};
+ghost use Rattle.std.specs.Prelude.{filter};
+ghost use Rattle.lists.specs.Keep.{last_place};
 ghost use Rattle.lists.specs.Store.{is_blank};
 ghost use Rattle.lists.proofs.Array.{Shaped};
 ghost use Rattle.pairing.specs.Pair.{pairs};
@@ -75,7 +76,7 @@ pub fn no_places() -> Places
 // The wanted rows moved to the front, in order; answers how many there are.
 fn squeeze(rows: &mut Places, n: usize, gate: Gate) -> usize
     requires { (n ≤ places) × (length rows.old ≡ places) }
-    ensures { (result ≤ n) × (take result rows.new ≡ keep (λ row. wanted gate (held_in row).entry) (take n rows.old)) × (drop n rows.new ≡ drop n rows.old) × (length rows.new ≡ places) }
+    ensures { (result ≤ n) × (take result rows.new ≡ filter (λ row. wanted gate (held_in row).entry) (take n rows.old)) × (drop n rows.new ≡ drop n rows.old) × (length rows.new ≡ places) }
 {
     let mut kept = 0;
     let mut i = 0;

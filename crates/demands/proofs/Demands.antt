@@ -6,7 +6,7 @@ use mathlib.Core.List.{List, [], ◌∷◌, ◌++◌, append_assoc, append-nil}
 use mathlib.Core.Path.{◌≡◌, refl, sym, ap, ap₂, ◌∙◌}
 use lib.Dec.{leb}
 use borrow.Author.Tests.{le-leb}
-use Rattle.lists.specs.Keep.{keep}
+use Rattle.std.specs.Prelude.{filter}
 use Rattle.lists.proofs.All.{All, all_map}
 use Rattle.lists.proofs.Bools.{and_left, and_right}
 use Rattle.lists.proofs.Judge.{all_all_of}
@@ -155,10 +155,10 @@ module _ (rule : Rule) (w : World) (g : GoodWorld rule w) where
     unfolding view
     below_clocks_lem =
         let now = ready_in w.state in
-        sym (ap (λ (ps : List Pair). ps ++ keep now (waiting_in w.state)) (keep_all now w.out due))
+        sym (ap (λ (ps : List Pair). ps ++ filter now (waiting_in w.state)) (keep_all now w.out due))
         ∙ sym (keep_append now w.out (waiting_in w.state))
         ∙ sym f.still
-        ∙ ap (keep now) k.listed
+        ∙ ap (filter now) k.listed
 
     no_more_lem : NoMore w later
     unfolding view

@@ -4,7 +4,7 @@ use mathlib.Core.Bool.{Bool, true, false, cond, ◌&&◌, false≢true}
 use mathlib.Core.List.{List, [], ◌∷◌, ◌++◌, append_assoc, append-nil, IsPrefix}
 use mathlib.Core.Path.{◌≡◌, refl, sym, ap, ◌∙◌}
 use lib.ListN.{drop}
-use Rattle.lists.specs.Keep.{keep}
+use Rattle.std.specs.Prelude.{filter}
 use Rattle.lists.specs.Sort.{insert_all_by}
 use Rattle.lists.proofs.All.{All, all_map, all_append}
 use Rattle.lists.proofs.Bools.{and_left, and_right}
@@ -76,7 +76,7 @@ pub record After (m n : Moment) : Type 0 where
   pub clock : Onward m.seen.own.gate n.seen.own.gate
   pub clock_other : Onward m.seen.other.gate n.seen.other.gate
   pub longer : IsPrefix m.out n.out
-  pub still : keep (ready_then m) (n.out ++ n.seen.waiting) ≡ keep (ready_then m) (m.out ++ m.seen.waiting)
+  pub still : filter (ready_then m) (n.out ++ n.seen.waiting) ≡ filter (ready_then m) (m.out ++ m.seen.waiting)
   pub entered : Entered m.seen.own.gate m.own n.own
   pub entered_other : Entered m.seen.other.gate m.other n.other
 
@@ -101,12 +101,12 @@ after_trans m n o p q = record {
   clock = onward_trans m.seen.own.gate n.seen.own.gate o.seen.own.gate p.clock q.clock;
   clock_other = onward_trans m.seen.other.gate n.seen.other.gate o.seen.other.gate p.clock_other q.clock_other;
   longer = (p.longer.0 ++ q.longer.0, sym (append_assoc m.out p.longer.0 q.longer.0) ∙ ap (λ (l : List Pair). l ++ q.longer.0) p.longer.1 ∙ q.longer.1);
-  still = sym (both (o.out ++ o.seen.waiting)) ∙ ap (keep (ready_then m)) q.still ∙ both (n.out ++ n.seen.waiting) ∙ p.still;
+  still = sym (both (o.out ++ o.seen.waiting)) ∙ ap (filter (ready_then m)) q.still ∙ both (n.out ++ n.seen.waiting) ∙ p.still;
   entered = entered_trans m.seen.own.gate n.seen.own.gate p.clock m.own n.own o.own p.entered q.entered;
   entered_other = entered_trans m.seen.other.gate n.seen.other.gate p.clock_other m.other n.other o.other p.entered_other q.entered_other;
 }
   where
-    both : (l : List Pair) → keep (ready_then m) (keep (ready_then n) l) ≡ keep (ready_then m) l
+    both : (l : List Pair) → filter (ready_then m) (filter (ready_then n) l) ≡ filter (ready_then m) l
     both l = keep_keep (ready_then m) (ready_then n) (ready_later m.seen.own.gate m.seen.other.gate n.seen.own.gate n.seen.other.gate p.clock p.clock_other) l
 
 -- ---- a gate moves, an entry comes
@@ -135,7 +135,7 @@ after_enter side m e l =
       clock_other = onward_same m.seen.other.gate;
       longer = ([], append-nil m.out);
       still = keep_append (ready_then m) m.out (insert_all_by comes_before new m.seen.waiting)
-          ∙ ap (λ (r : List Pair). keep (ready_then m) m.out ++ r) (keep_insert_all_by comes_before (ready_then m) new m.seen.waiting hidden)
+          ∙ ap (λ (r : List Pair). filter (ready_then m) m.out ++ r) (keep_insert_all_by comes_before (ready_then m) new m.seen.waiting hidden)
           ∙ sym (keep_append (ready_then m) m.out m.seen.waiting);
       entered = (e ∷ [], (refl, (l, tt)));
       entered_other = entered_none m.seen.other.gate m.other;
@@ -201,7 +201,7 @@ module _ (s : State) (of_a of_b : List Entry) (out : List Pair) where
         clock = onward_same s.join.a.journal.gate;
         clock_other = onward_same s.join.b.journal.gate;
         longer = (p ∷ [], refl);
-        still = ap (keep (ready_in s)) whole;
+        still = ap (filter (ready_in s)) whole;
         entered = entered_none s.join.a.journal.gate of_a;
         entered_other = entered_none s.join.b.journal.gate of_b;
       }

@@ -7,7 +7,7 @@ use mathlib.Core.List.{List, [], ◌∷◌, ◌++◌, append_assoc, append-nil, 
 use mathlib.Core.Path.{◌≡◌, refl, sym, ap, ◌∙◌}
 use lib.ListN.{length, drop, length-append}
 use Rattle.interval.proofs.Laws.{meeting_comm, meeting_start}
-use Rattle.lists.specs.Keep.{keep}
+use Rattle.std.specs.Prelude.{filter}
 use Rattle.lists.specs.Sort.{insert_all_by}
 use Rattle.lists.proofs.All.{All, all_any, all_map, all_append, all_mapped}
 use Rattle.lists.proofs.Bools.{and_left, and_right}
@@ -96,7 +96,7 @@ pub new_starts : (rule : Rule) (side : Side) (x : Numbered) (others : List Numbe
 new_starts rule side x others =
     rw (new_pairs_map rule side x others)
     (all_mapped (pair_from side x) (λ (y : Numbered). Unit {0}) (λ (p : Pair). x.entry.span.start ≤ p.meeting.start) (λ y u. one side y)
-    (keep (pairing rule x) others) (all_any (λ (y : Numbered). Unit {0}) (λ y. tt) (keep (pairing rule x) others)))
+    (filter (pairing rule x) others) (all_any (λ (y : Numbered). Unit {0}) (λ y. tt) (filter (pairing rule x) others)))
   where
     one : (side : Side) (y : Numbered) → x.entry.span.start ≤ (pair_from side x y).meeting.start
     one A y = rw (pair_meeting x y) (meeting_start x.entry.span y.entry.span)

@@ -6,7 +6,8 @@ use mathlib.Core.List.{List, [], ◌∷◌}
 use mathlib.Core.Path.{◌≡◌, refl, sym, ap, ◌∙◌}
 use lib.Dec.{ltb}
 use borrow.Author.Tests.{lt-ltb}
-use Rattle.lists.specs.Keep.{keep, tally}
+use Rattle.std.specs.Prelude.{filter}
+use Rattle.lists.specs.Keep.{tally}
 use Rattle.lists.proofs.Keep.{tally_through, tally_stopped}
 use Rattle.demands.specs.Stream.{once, sum_over}
 
@@ -27,7 +28,7 @@ module _ {E : Type 0} (same : E → E → Bool) (same_refl : (x : E) → same x 
       lets h y k = ap (λ (u : E). not (same u x)) (same_true y z k) ∙ flip h (same z x) refl
 
       go : (b : Bool) → same x z ≡ b → tally (λ (y : E). same y z) (once same xs) ≡ cond (ltb 0 (tally (λ (y : E). same y z) xs)) 1 0
-          → cond b (suc (tally (λ (y : E). same y z) (keep (λ (y : E). not (same y x)) (once same xs)))) (tally (λ (y : E). same y z) (keep (λ (y : E). not (same y x)) (once same xs)))
+          → cond b (suc (tally (λ (y : E). same y z) (filter (λ (y : E). not (same y x)) (once same xs)))) (tally (λ (y : E). same y z) (filter (λ (y : E). not (same y x)) (once same xs)))
           ≡ cond (ltb 0 (cond b (suc (tally (λ (y : E). same y z) xs)) (tally (λ (y : E). same y z) xs))) 1 0
       go true h e =
           ap suc (tally_stopped (λ (y : E). same y z) (λ (y : E). not (same y x)) (stops h) (once same xs))

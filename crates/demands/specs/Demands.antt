@@ -3,7 +3,7 @@ use Rattle.std.specs.Prelude.{ℕ, ◌*◌, true, cond, ◌||◌, ◌≡◌, leb
 use mathlib.Core.List.{List, [], ◌∷◌, ◌++◌, Perm, IsPrefix}
 use Rattle.interval.specs.Interval.{holds_at}
 use Rattle.lists.specs.Judge.{all_of}
-use Rattle.lists.specs.Keep.{keep}
+use Rattle.std.specs.Prelude.{filter}
 use Rattle.pairing.specs.declared.Entry.{Entry}
 use Rattle.pairing.specs.declared.Pair.{Pair}
 use Rattle.pairing.specs.declared.Rule.{Rule}
@@ -27,7 +27,7 @@ pairs_of w = w.out ++ waiting_in w.state
 
 module _ (rule : Rule) (w : World) where
   abbrev pub EachInstant : Type 0
-  EachInstant = (t : ℕ) → Perm (keep (λ (p : Pair). holds_at t p.meeting) (pairs_of w)) (couples_at t rule w.of_a w.of_b)
+  EachInstant = (t : ℕ) → Perm (filter (λ (p : Pair). holds_at t p.meeting) (pairs_of w)) (couples_at t rule w.of_a w.of_b)
 
   -- Source document 000, definition 8.5, multiplies the counts: as a logical stream, the pairs are the join of the two journals.
   abbrev pub Joins : Type 0
@@ -64,7 +64,7 @@ module _ (rule : Rule) (w later : World) where
 
   -- what is handed out or ready is exactly what starts below the clock of every open journal; a closed one sets no limit
   abbrev pub BelowClocks : Type 0
-  BelowClocks = w.out ++ ready_of w.state ≡ keep (ready_in w.state) (plain_of rule later)
+  BelowClocks = w.out ++ ready_of w.state ≡ filter (ready_in w.state) (plain_of rule later)
 
   -- both closed and nothing waiting: the whole list
   abbrev pub Whole : Type 0

@@ -2,7 +2,8 @@
 use Rattle.std.specs.Prelude.{ℕ, ◌+◌, ◌*◌, ◌<◌, Bool, cond, not, ◌&&◌, List, [], ◌∷◌, map, ◌≡◌, eqb}
 use Rattle.interval.specs.declared.Interval.{Interval}
 use Rattle.interval.specs.Interval.{holds_at}
-use Rattle.lists.specs.Keep.{keep, tally}
+use Rattle.std.specs.Prelude.{filter}
+use Rattle.lists.specs.Keep.{tally}
 use Rattle.pairing.specs.declared.Entry.{Entry}
 use Rattle.pairing.specs.declared.Pair.{Pair}
 use Rattle.pairing.specs.declared.Rule.{Rule}
@@ -21,7 +22,7 @@ EachOnce {E} same S = (e : E) (t : ℕ) → 0 < S.count e t → tally (λ (x : E
 -- the elements of a list, each once
 abbrev pub once : {E : Type 0} → (E → E → Bool) → List E → List E
 once same [] = []
-once {E} same (x ∷ xs) = x ∷ keep (λ (y : E). not (same y x)) (once same xs)
+once {E} same (x ∷ xs) = x ∷ filter (λ (y : E). not (same y x)) (once same xs)
 
 -- Section 2.3.4: a list of things with an element and an interval each, as a logical stream, holds e at t as often as there are places in it with the element e and an interval that holds t.
 unfoldable pub stream_from : {X E : Type 0} → (E → E → Bool) → (X → E) → (X → Interval) → List X → Stream E

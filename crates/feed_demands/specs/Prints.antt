@@ -1,7 +1,7 @@
 -- What is printed of a feed, by any rule, is what the join hands out, so that the demands speak of it. joinfeed prints it by equal keys.
 use Rattle.std.specs.Prelude.{ℕ, ◌≡◌, length}
 use mathlib.Core.List.{List, [], ◌∷◌, ◌++◌, IsPrefix}
-use Rattle.lists.specs.Keep.{keep}
+use Rattle.std.specs.Prelude.{filter}
 use Rattle.pairing.specs.declared.Rule.{Rule}
 use Rattle.pairing.specs.declared.Side.TheVariants.{A, B}
 use Rattle.join.specs.State.{Sound}
@@ -52,7 +52,7 @@ module _ (rule : Rule) where
 
   -- and they are exactly those that start below the clock of every open journal.
   abbrev pub NoneKeptBack : Course → Type 0
-  NoneKeptBack c = (more : List Call) → (world_of c).out ≡ keep (ready_in (world_of c).state) (plain_of rule (ran rule (c.calls ++ more)))
+  NoneKeptBack c = (more : List Call) → (world_of c).out ≡ filter (ready_in (world_of c).state) (plain_of rule (ran rule (c.calls ++ more)))
 
 -- ---- of a feed
 

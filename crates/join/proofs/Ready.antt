@@ -6,7 +6,7 @@ use mathlib.Core.List.{List, [], ◌∷◌, ◌++◌, append-nil, map}
 use mathlib.Core.Path.{◌≡◌, refl, sym, ap, ◌∙◌}
 use lib.ListN.{length, take, drop}
 use lib.Seq.{drop-drop}
-use Rattle.lists.specs.Keep.{keep}
+use Rattle.std.specs.Prelude.{filter}
 use Rattle.lists.specs.Check.{Check}
 use Rattle.lists.proofs.All.{All, all_any}
 use Rattle.lists.proofs.Keep.{keep_length}
@@ -55,7 +55,7 @@ ascending s h = rw (view_waiting A s) at (sound_view A s h).waiting.ascends
 
 -- the ready pairs as a side sees them
 abbrev ready_seen : View → List Pair
-ready_seen v = keep (queue.ready v.own.gate v.other.gate) v.waiting
+ready_seen v = filter (queue.ready v.own.gate v.other.gate) v.waiting
 
 ready_seen_lem : (side : Side) (s : State) → ready_of s ≡ ready_seen (view side s)
 unfolding view
@@ -75,13 +75,13 @@ module _ (s : State) (h : Sound s) (side : Side) where
 
   -- the gate of the side moves onward, and no pair that goes in is ready
   grows_seen : (v : View) → Onward seen.own.gate v.own.gate → v.other.gate ≡ seen.other.gate
-      → keep (queue.ready seen.own.gate seen.other.gate) v.waiting ≡ ready_seen seen → Ascending comes_before v.waiting → Grows s (state_of side v)
+      → filter (queue.ready seen.own.gate seen.other.gate) v.waiting ≡ ready_seen seen → Ascending comes_before v.waiting → Grows s (state_of side v)
   grows_seen v on other same ascends =
       let g = ready_grows seen.own.gate seen.other.gate v.own.gate seen.other.gate on (onward_same seen.other.gate) seen.waiting v.waiting same ascends in (
         g.0,
         ready_seen_lem side (state_of side v)
             ∙ ap ready_seen (view_state_of side v)
-            ∙ ap (λ (gate : Gate). keep (queue.ready v.own.gate gate) v.waiting) other
+            ∙ ap (λ (gate : Gate). filter (queue.ready v.own.gate gate) v.waiting) other
             ∙ g.1
             ∙ ap (λ (l : List Pair). l ++ g.0) (sym (ready_seen_lem side s)),
       )
@@ -149,13 +149,13 @@ module _ (s : State) (h : Sound s) where
     where
       done : (q : Pair) (qs : List Pair) → waiting_in s ≡ q ∷ qs → ready_in s q ≡ true → (take_call s ≡ record { answer = Handed p; state = without 1 s }) × (ready_of (without 1 s) ≡ rest)
       done q qs w r =
-          let shown : q ∷ keep (ready_in s) qs ≡ p ∷ rest = rw (w, r) at e in
+          let shown : q ∷ filter (ready_in s) qs ≡ p ∷ rest = rw (w, r) at e in
           let first : q ≡ p = cc in
-          let then : keep (ready_in s) qs ≡ rest = cc in (
+          let then : filter (ready_in s) qs ≡ rest = cc in (
             take_sound
                 ∙ ap (λ (l : List Pair). record { answer = next_of (ready_in s) (both_closed s.join) l; state = after_take (next_of (ready_in s) (both_closed s.join) l) s }) w
                 ∙ rw (r, first),
-            ap (keep (ready_in (without 1 s))) (waiting_without 1 s ∙ ap (drop 1) w) ∙ ap (λ (f : Pair → Bool). keep f qs) (ready_without 1 s) ∙ then,
+            ap (filter (ready_in (without 1 s))) (waiting_without 1 s ∙ ap (drop 1) w) ∙ ap (λ (f : Pair → Bool). filter f qs) (ready_without 1 s) ∙ then,
           )
 
       go : (l : List Pair) → waiting_in s ≡ l → Ascending comes_before l → (take_call s ≡ record { answer = Handed p; state = without 1 s }) × (ready_of (without 1 s) ≡ rest)

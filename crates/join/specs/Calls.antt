@@ -1,6 +1,6 @@
 -- What each call answers and leaves, for every state and every argument.
 use Rattle.std.specs.Prelude.{ℕ, Bool, cond, not, ◌&&◌, List, [], ◌∷◌, ◌++◌, ltb, eqb, drop}
-use Rattle.lists.specs.Keep.{keep}
+use Rattle.std.specs.Prelude.{filter}
 use Rattle.lists.specs.Check.{Check, ◌gives◌}
 use Rattle.pairing.specs.declared.Entry.{Entry}
 use Rattle.pairing.specs.declared.Pair.{Pair}
@@ -77,7 +77,7 @@ ready_in s = queue.ready s.join.a.journal.gate s.join.b.journal.gate
 
 -- the ready pairs, in their order
 abbrev pub ready_of : State → List Pair
-ready_of s = keep (ready_in s) (waiting_in s)
+ready_of s = filter (ready_in s) (waiting_in s)
 
 -- both journals are closed
 abbrev pub both_closed : Join → Bool

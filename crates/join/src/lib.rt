@@ -3,7 +3,7 @@
 
 ghost use Rattle.std.specs.Prelude.{◌≡◌, true, ◌≤◌, length, take};
 ghost use Rattle.lists.specs.Judge.{chain};
-ghost use Rattle.lists.specs.Keep.{keep};
+ghost use Rattle.std.specs.Prelude.{filter};
 ghost use Rattle.lists.specs.Store.{Rows};
 ghost use Rattle.pairing.specs.Pair.{comes_before};
 ghost use Rattle.area.specs.Area as the_area;
@@ -264,8 +264,8 @@ impl Join {
     // How many waiting pairs are ready. They are the first ones.
     pub fn ready_on(self, rows: &queue::Places) -> usize
         requires { (the_queue.Holds self.queue rows.now) × (chain comes_before (the_queue.waiting self.queue rows.now) ≡ true) }
-        ensures value { result ≡ length (keep (the_queue.ready self.a.journal.gate self.b.journal.gate) (the_queue.waiting self.queue rows.now)) }
-        ensures rows_value { take result (the_queue.waiting self.queue rows.now) ≡ keep (the_queue.ready self.a.journal.gate self.b.journal.gate) (the_queue.waiting self.queue rows.now) }
+        ensures value { result ≡ length (filter (the_queue.ready self.a.journal.gate self.b.journal.gate) (the_queue.waiting self.queue rows.now)) }
+        ensures rows_value { take result (the_queue.waiting self.queue rows.now) ≡ filter (the_queue.ready self.a.journal.gate self.b.journal.gate) (the_queue.waiting self.queue rows.now) }
     {
         let journal_a = self.a.journal;
         let gate_a = journal_a.gate;

@@ -8,7 +8,7 @@ use lib.Ieee.Bits.{is_true, is_false}
 use lib.ListN.{length, take, get_or, length-map}
 use lib.Seq.{take_all}
 use Rattle.interval.specs.Interval.{proper_of}
-use Rattle.lists.specs.Keep.{keep}
+use Rattle.std.specs.Prelude.{filter}
 use Rattle.lists.specs.Store.{Rows}
 use Rattle.lists.proofs.All.{all_any}
 use Rattle.lists.proofs.Bools.{bool_ext}
@@ -33,15 +33,15 @@ use Rattle.lent.specs.Counted.{answered, counted, entries_of}
 -- ---- the count
 
 -- what cannot be a partner may be left out of the run first
-counted_passing : (rule : Rule) (given : Entry) (run : List Entry) (test : Entry → Bool) → ((e : Entry) → pairs rule given e ≡ true → test e ≡ true) → counted rule given (keep test run) ≡ counted rule given run
+counted_passing : (rule : Rule) (given : Entry) (run : List Entry) (test : Entry → Bool) → ((e : Entry) → pairs rule given e ≡ true → test e ≡ true) → counted rule given (filter test run) ≡ counted rule given run
 counted_passing rule given run test h = ap (λ (l : List Entry). answered given (length l)) (keep_keep (pairs rule given) test h run)
 
 -- an improper entry in the run pairs with nothing: the count is that of the proper ones
-pub counted_proper : (rule : Rule) (given : Entry) (run : List Entry) → counted rule given (keep (λ (e : Entry). proper_of e.span) run) ≡ counted rule given run
+pub counted_proper : (rule : Rule) (given : Entry) (run : List Entry) → counted rule given (filter (λ (e : Entry). proper_of e.span) run) ≡ counted rule given run
 counted_proper rule given run = counted_passing rule given run (λ e. proper_of e.span) (λ e. pairs_proper rule given e)
 
 -- nor does one of a key that the rule does not allow
-pub counted_allowed : (rule : Rule) (given : Entry) (run : List Entry) → counted rule given (keep (λ (e : Entry). allows rule e.key) run) ≡ counted rule given run
+pub counted_allowed : (rule : Rule) (given : Entry) (run : List Entry) → counted rule given (filter (λ (e : Entry). allows rule e.key) run) ≡ counted rule given run
 counted_allowed rule given run = counted_passing rule given run (λ e. allows rule e.key) (λ e h. pairs_allows rule e given (pairs_comm rule e given ∙ h))
 
 -- and where the given key is such a one, none is counted
@@ -51,15 +51,15 @@ counted_none rule given run barred =
     ap (λ (l : List Entry). answered given (length l)) (keep_none (pairs rule given) run (all_any (λ (e : Entry). pairs rule given e ≡ false) none run))
 
 -- it is the same whichever journal the run is of
-pub counted_comm : (rule : Rule) (given : Entry) (run : List Entry) → counted rule given run ≡ answered given (length (keep (λ (e : Entry). pairs rule e given) run))
-counted_comm rule given run = ap (λ (test : Entry → Bool). answered given (length (keep test run))) (λ i e. pairs_comm rule given e i)
+pub counted_comm : (rule : Rule) (given : Entry) (run : List Entry) → counted rule given run ≡ answered given (length (filter (λ (e : Entry). pairs rule e given) run))
+counted_comm rule given run = ap (λ (test : Entry → Bool). answered given (length (filter test run))) (λ i e. pairs_comm rule given e i)
 
 -- ---- the count as it goes
 
 module _ (rule : Rule) (given : Entry) (run : List Entry) where
   -- what is found among the first i
   abbrev pub found : ℕ → ℕ
-  found i = length (keep (pairs rule given) (take i run))
+  found i = length (filter (pairs rule given) (take i run))
 
   pub found_more : (i : ℕ) (d : Entry) → i < length run → Holds (pairs rule given (get_or run i d)) → found i + 1 ≡ found (i + 1)
   found_more i d h t = kept_more (pairs rule given) run i d h (is_true _ t)
@@ -70,8 +70,8 @@ module _ (rule : Rule) (given : Entry) (run : List Entry) where
   pub found_few : (i : ℕ) → found i ≤ i
   found_few i = keep_bound (pairs rule given) run i
 
-  pub found_all : (i : ℕ) → length run ≤ i → found i ≡ length (keep (pairs rule given) run)
-  found_all i h = ap (λ (l : List Entry). length (keep (pairs rule given) l)) (take_all i run h)
+  pub found_all : (i : ℕ) → length run ≤ i → found i ≡ length (filter (pairs rule given) run)
+  found_all i h = ap (λ (l : List Entry). length (filter (pairs rule given) l)) (take_all i run h)
 
 -- ---- the count over what an area holds
 

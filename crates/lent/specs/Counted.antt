@@ -1,7 +1,7 @@
 -- A count of partners over a lent run of entries, which keeps nothing.
 use Rattle.std.specs.Prelude.{ℕ, cond, List, map, length}
 use Rattle.interval.specs.Interval.{proper_of}
-use Rattle.lists.specs.Keep.{keep}
+use Rattle.std.specs.Prelude.{filter}
 use Rattle.pairing.specs.declared.Entry.{Entry}
 use Rattle.pairing.specs.declared.Numbered.{Numbered}
 use Rattle.pairing.specs.declared.Rule.{Rule}
@@ -15,7 +15,7 @@ answered given found = cond (proper_of given.span) (Partners found) (Refused 3)
 
 -- How many of them pair with one given entry of the other journal. An improper one in the run pairs with nothing: `pairs` says so.
 abbrev pub counted : Rule → Entry → List Entry → Counted
-counted rule given run = answered given (length (keep (pairs rule given) run))
+counted rule given run = answered given (length (filter (pairs rule given) run))
 
 -- what an area holds is a run, once the ordinals are left out
 abbrev pub entries_of : List Numbered → List Entry

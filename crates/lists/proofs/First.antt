@@ -5,7 +5,7 @@ use mathlib.Core.Bool.{Bool, true, false, cond, not, true≢false}
 use mathlib.Core.List.{List, [], ◌∷◌, ◌++◌, append-nil}
 use mathlib.Core.Path.{◌≡◌, refl, sym, ap, ◌∙◌}
 use lib.ListN.{length, take, drop, get_or, take-append-drop}
-use Rattle.lists.specs.Keep.{keep}
+use Rattle.std.specs.Prelude.{filter}
 use Rattle.lists.proofs.All.{All, Each, all_map}
 use Rattle.lists.proofs.Keep.{keep_append, keep_all, keep_none}
 
@@ -28,26 +28,26 @@ module _ {A : Type 0} (p : A → Bool) where
   fails_on (x ∷ xs) (suc k) d h e f = fails_on xs k d (le_of_suc-le-suc h) e.1 f
 
   -- the first k pass and the rest fails
-  pub keep_first : (xs : List A) (k : ℕ) → All (λ (x : A). p x ≡ true) (take k xs) → All (λ (x : A). p x ≡ false) (drop k xs) → keep p xs ≡ take k xs
+  pub keep_first : (xs : List A) (k : ℕ) → All (λ (x : A). p x ≡ true) (take k xs) → All (λ (x : A). p x ≡ false) (drop k xs) → filter p xs ≡ take k xs
   keep_first xs k h f =
-      ap (keep p) (sym (take-append-drop k xs))
+      ap (filter p) (sym (take-append-drop k xs))
       ∙ keep_append p (take k xs) (drop k xs)
-      ∙ ap (λ (l : List A). l ++ keep p (drop k xs)) (keep_all p (take k xs) h)
+      ∙ ap (λ (l : List A). l ++ filter p (drop k xs)) (keep_all p (take k xs) h)
       ∙ ap (λ (l : List A). take k xs ++ l) (keep_none p (drop k xs) f)
       ∙ append-nil (take k xs)
 
   -- what passes stands first, then what does not
-  pub keep_split : (xs : List A) → Each Down xs → xs ≡ keep p xs ++ keep (λ (x : A). not (p x)) xs
+  pub keep_split : (xs : List A) → Each Down xs → xs ≡ filter p xs ++ filter (λ (x : A). not (p x)) xs
   keep_split [] h = refl
   keep_split (x ∷ xs) h = go (p x) refl (keep_split xs h.1)
     where
       others : List A
-      others = keep (λ (y : A). not (p y)) xs
+      others = filter (λ (y : A). not (p y)) xs
 
       fail : p x ≡ false → All (λ (y : A). p y ≡ false) xs
       fail e = all_map (Down x) (λ (y : A). p y ≡ false) (λ y i. fails x y e i) xs h.0
 
-      go : (b : Bool) → p x ≡ b → xs ≡ keep p xs ++ others → x ∷ xs ≡ cond b (x ∷ keep p xs) (keep p xs) ++ cond (not b) (x ∷ others) others
+      go : (b : Bool) → p x ≡ b → xs ≡ filter p xs ++ others → x ∷ xs ≡ cond b (x ∷ filter p xs) (filter p xs) ++ cond (not b) (x ∷ others) others
       go true e i = ap {B = List A} (λ l. x ∷ l) i
       go false e i =
           rw (
@@ -56,11 +56,11 @@ module _ {A : Type 0} (p : A → Bool) where
           )
 
   -- the first that passes is the first of all
-  pub keep_head : (y : A) (ys : List A) → Each Down (y ∷ ys) → (x : A) (xs : List A) → keep p (y ∷ ys) ≡ x ∷ xs → p y ≡ true
+  pub keep_head : (y : A) (ys : List A) → Each Down (y ∷ ys) → (x : A) (xs : List A) → filter p (y ∷ ys) ≡ x ∷ xs → p y ≡ true
   keep_head y ys h x xs e = go (p y) refl e
     where
-      go : (b : Bool) → p y ≡ b → cond b (y ∷ keep p ys) (keep p ys) ≡ x ∷ xs → p y ≡ true
+      go : (b : Bool) → p y ≡ b → cond b (y ∷ filter p ys) (filter p ys) ≡ x ∷ xs → p y ≡ true
       go true s f = s
       go false s f =
-          let none : keep p ys ≡ [] = keep_none p ys (all_map (Down y) (λ (z : A). p z ≡ false) (λ z i. fails y z s i) ys h.0) in
+          let none : filter p ys ≡ [] = keep_none p ys (all_map (Down y) (λ (z : A). p z ≡ false) (λ z i. fails y z s i) ys h.0) in
           cc

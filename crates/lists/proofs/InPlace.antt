@@ -8,7 +8,7 @@ use mathlib.Core.List.{List, [], ◌∷◌, ◌++◌, append_assoc}
 use mathlib.Core.Path.{◌≡◌, sym, ap, ◌∙◌}
 use lib.ListN.{length, replicate, take, drop, set, get_or, length-append, length-replicate, length-take, length-drop, take-append-drop, replicate-append-replicate}
 use lib.Seq.{slice, length-slice, drop-cons, get_or-drop, get_or-append-add, set_at, take_at, drop_at, take-set-le, take-suc-set, drop-set-lt, drop-drop, drop-append-add}
-use Rattle.lists.specs.Keep.{keep}
+use Rattle.std.specs.Prelude.{filter}
 use Rattle.lists.specs.Store.{pad_to}
 use Rattle.lists.proofs.Judge.{slice_more}
 use Rattle.lists.proofs.Keep.{keep_more, keep_same}
@@ -36,21 +36,21 @@ module _ {A : Type 0} (l₀ : List A) (from i : ℕ) (z : A) (behind : from ≤ 
 -- ---- what passes a test is moved to the front
 
 module _ {A : Type 0} (p : A → Bool) (l₀ l : List A) (i at : ℕ) (d : A) (inside₀ : i < length l₀) (inside : i < length l) (behind : at ≤ i)
-    (front : take at l ≡ keep p (take i l₀)) (back : drop i l ≡ drop i l₀) where
+    (front : take at l ≡ filter p (take i l₀)) (back : drop i l ≡ drop i l₀) where
   same : get_or l i d ≡ get_or l₀ i d
   same =
       ap (λ (m : ℕ). get_or l m d) (sym (add-zero i)) ∙ sym (get_or-drop i l 0 d) ∙ ap (λ (t : List A). get_or t 0 d) back ∙ get_or-drop i l₀ 0 d ∙ ap (λ (m : ℕ). get_or l₀ m d) (add-zero i)
 
   -- each is moved, and counted if it passes
-  pub squeeze_kept : p (get_or l i d) ≡ true → take (at + 1) (set l at (get_or l i d)) ≡ keep p (take (i + 1) l₀)
+  pub squeeze_kept : p (get_or l i d) ≡ true → take (at + 1) (set l at (get_or l i d)) ≡ filter p (take (i + 1) l₀)
   squeeze_kept e =
       ap (λ (m : ℕ). take m (set l at (get_or l i d))) (add-one at)
       ∙ take-suc-set l at (get_or l i d) (omega arith)
       ∙ ap (λ (t : List A). t ++ (get_or l i d ∷ [])) front
-      ∙ ap (λ (x : A). keep p (take i l₀) ++ (x ∷ [])) same
+      ∙ ap (λ (x : A). filter p (take i l₀) ++ (x ∷ [])) same
       ∙ sym (keep_more p l₀ i d inside₀ (ap p (sym same) ∙ e))
 
-  pub squeeze_left : p (get_or l i d) ≡ false → take at (set l at (get_or l i d)) ≡ keep p (take (i + 1) l₀)
+  pub squeeze_left : p (get_or l i d) ≡ false → take at (set l at (get_or l i d)) ≡ filter p (take (i + 1) l₀)
   squeeze_left e = take-set-le at l at (get_or l i d) (omega arith) ∙ front ∙ sym (keep_same p l₀ i d inside₀ (ap p (sym same) ∙ e))
 
   -- those that are still to be looked at stay

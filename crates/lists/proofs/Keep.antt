@@ -1,100 +1,101 @@
--- Laws of `keep` and `tally`.
+-- Laws of `filter` and `tally`.
 use Prim.Native.Nat.{ℕ, suc, ◌+◌, ◌-◌, ◌≤◌, ◌<◌}
 use native.Mathlib.Numerals.{add-one}
 use native.Mathlib.Omega.{arith}
 use mathlib.Core.Bool.{Bool, true, false, cond, true≢false, Bool-discrete}
 use mathlib.Core.List.Perm
-use mathlib.Core.List.{List, [], ◌∷◌, ◌++◌, append-nil, map, flat_map, filter, Perm}
+use mathlib.Core.List.{List, [], ◌∷◌, ◌++◌, append-nil, map, flat_map, filter as filter_if, Perm}
 use mathlib.Core.Logic.{ite}
 use mathlib.Core.Path.{◌≡◌, refl, sym, ap, ◌∙◌}
 use lib.ListN.{length, take, drop, get_or, length-take, length-append}
 use lib.Seq.{take-suc, take-add}
-use Rattle.lists.specs.Keep.{keep, tally}
+use Rattle.std.specs.Prelude.{filter}
+use Rattle.lists.specs.Keep.{tally}
 use Rattle.lists.proofs.All.{All, Each}
 
 module _ {A : Type 0} (p : A → Bool) where
-  pub keep_append : (xs ys : List A) → keep p (xs ++ ys) ≡ keep p xs ++ keep p ys
+  pub keep_append : (xs ys : List A) → filter p (xs ++ ys) ≡ filter p xs ++ filter p ys
   keep_append [] ys = refl
   keep_append (x ∷ xs) ys = go (p x) (keep_append xs ys)
     where
-      go : (b : Bool) → keep p (xs ++ ys) ≡ keep p xs ++ keep p ys → cond b (x ∷ keep p (xs ++ ys)) (keep p (xs ++ ys)) ≡ cond b (x ∷ keep p xs) (keep p xs) ++ keep p ys
+      go : (b : Bool) → filter p (xs ++ ys) ≡ filter p xs ++ filter p ys → cond b (x ∷ filter p (xs ++ ys)) (filter p (xs ++ ys)) ≡ cond b (x ∷ filter p xs) (filter p xs) ++ filter p ys
       go true e = ap {B = List A} (λ r. x ∷ r) e
       go false e = e
 
-  pub keep_all : (xs : List A) → All (λ (x : A). p x ≡ true) xs → keep p xs ≡ xs
+  pub keep_all : (xs : List A) → All (λ (x : A). p x ≡ true) xs → filter p xs ≡ xs
   keep_all [] h = refl
   keep_all (x ∷ xs) h = rw (h.0, keep_all xs h.1)
 
-  pub keep_none : (xs : List A) → All (λ (x : A). p x ≡ false) xs → keep p xs ≡ []
+  pub keep_none : (xs : List A) → All (λ (x : A). p x ≡ false) xs → filter p xs ≡ []
   keep_none [] h = refl
   keep_none (x ∷ xs) h = rw h.0 (keep_none xs h.1)
 
-  pub keep_passes : (xs : List A) → All (λ (x : A). p x ≡ true) (keep p xs)
+  pub keep_passes : (xs : List A) → All (λ (x : A). p x ≡ true) (filter p xs)
   keep_passes [] = tt
   keep_passes (x ∷ xs) = go (p x) refl (keep_passes xs)
     where
-      go : (b : Bool) → p x ≡ b → All (λ (y : A). p y ≡ true) (keep p xs) → All (λ (y : A). p y ≡ true) (cond b (x ∷ keep p xs) (keep p xs))
+      go : (b : Bool) → p x ≡ b → All (λ (y : A). p y ≡ true) (filter p xs) → All (λ (y : A). p y ≡ true) (cond b (x ∷ filter p xs) (filter p xs))
       go true e i = (e, i)
       go false e i = i
 
   -- one element more is looked at: it is kept, or not
-  keep_take : (l : List A) (i : ℕ) (d : A) → i < length l → keep p (take (i + 1) l) ≡ keep p (take i l) ++ keep p (get_or l i d ∷ [])
+  keep_take : (l : List A) (i : ℕ) (d : A) → i < length l → filter p (take (i + 1) l) ≡ filter p (take i l) ++ filter p (get_or l i d ∷ [])
   keep_take l i d h = rw (add-one, take-suc l i d h, keep_append)
 
-  pub keep_more : (l : List A) (i : ℕ) (d : A) → i < length l → p (get_or l i d) ≡ true → keep p (take (i + 1) l) ≡ keep p (take i l) ++ (get_or l i d ∷ [])
+  pub keep_more : (l : List A) (i : ℕ) (d : A) → i < length l → p (get_or l i d) ≡ true → filter p (take (i + 1) l) ≡ filter p (take i l) ++ (get_or l i d ∷ [])
   keep_more l i d h e = rw (keep_take l i d h, e)
 
-  pub keep_same : (l : List A) (i : ℕ) (d : A) → i < length l → p (get_or l i d) ≡ false → keep p (take (i + 1) l) ≡ keep p (take i l)
-  keep_same l i d h e = rw (keep_take l i d h, e) (append-nil (keep p (take i l)))
+  pub keep_same : (l : List A) (i : ℕ) (d : A) → i < length l → p (get_or l i d) ≡ false → filter p (take (i + 1) l) ≡ filter p (take i l)
+  keep_same l i d h e = rw (keep_take l i d h, e) (append-nil (filter p (take i l)))
 
   -- so there is one more, or as many as before
-  pub kept_more : (l : List A) (i : ℕ) (d : A) → i < length l → p (get_or l i d) ≡ true → length (keep p (take i l)) + 1 ≡ length (keep p (take (i + 1) l))
-  kept_more l i d h e = sym (ap length (keep_more l i d h e) ∙ length-append (keep p (take i l)) (get_or l i d ∷ []))
+  pub kept_more : (l : List A) (i : ℕ) (d : A) → i < length l → p (get_or l i d) ≡ true → length (filter p (take i l)) + 1 ≡ length (filter p (take (i + 1) l))
+  kept_more l i d h e = sym (ap length (keep_more l i d h e) ∙ length-append (filter p (take i l)) (get_or l i d ∷ []))
 
-  pub kept_same : (l : List A) (i : ℕ) (d : A) → i < length l → p (get_or l i d) ≡ false → length (keep p (take i l)) ≡ length (keep p (take (i + 1) l))
+  pub kept_same : (l : List A) (i : ℕ) (d : A) → i < length l → p (get_or l i d) ≡ false → length (filter p (take i l)) ≡ length (filter p (take (i + 1) l))
   kept_same l i d h e = ap length (sym (keep_same l i d h e))
 
-  pub keep_length : (xs : List A) → length (keep p xs) ≤ length xs
+  pub keep_length : (xs : List A) → length (filter p xs) ≤ length xs
   keep_length [] = omega arith
   keep_length (x ∷ xs) = go (p x) (keep_length xs)
     where
-      go : (b : Bool) → length (keep p xs) ≤ length xs → length (cond b (x ∷ keep p xs) (keep p xs)) ≤ suc (length xs)
+      go : (b : Bool) → length (filter p xs) ≤ length xs → length (cond b (x ∷ filter p xs) (filter p xs)) ≤ suc (length xs)
       go true h = omega arith
       go false h = omega arith
 
   -- what is kept of the first i is at most i
-  pub keep_bound : (l : List A) (i : ℕ) → length (keep p (take i l)) ≤ i
+  pub keep_bound : (l : List A) (i : ℕ) → length (filter p (take i l)) ≤ i
   keep_bound l i = omega (arith, keep_length (take i l), length-take i l)
 
   -- fewer elements looked at, no more kept
-  pub keep_fewer : (l : List A) (i n : ℕ) → i ≤ n → length (keep p (take i l)) ≤ length (keep p (take n l))
+  pub keep_fewer : (l : List A) (i n : ℕ) → i ≤ n → length (filter p (take i l)) ≤ length (filter p (take n l))
   keep_fewer l i n h =
       let up : i + (n - i) ≡ n = omega arith in
       let cut : take n l ≡ take i l ++ take (n - i) (drop i l) = ap (λ (m : ℕ). take m l) (sym up) ∙ take-add i (n - i) l in
       omega (
         arith,
-        ap (λ (t : List A). length (keep p t)) cut,
+        ap (λ (t : List A). length (filter p t)) cut,
         ap length (keep_append (take i l) (take (n - i) (drop i l))),
-        length-append (keep p (take i l)) (keep p (take (n - i) (drop i l))),
+        length-append (filter p (take i l)) (filter p (take (n - i) (drop i l))),
       )
 
-  -- mathlib's filter, by the decision that the test is true
-  keep_filter : (xs : List A) → keep p xs ≡ filter {p = λ (x : A). p x ≡ true} (λ x. Bool-discrete (p x) true) xs
+  -- the filter by a decision, that the decision that the test is true
+  keep_filter : (xs : List A) → filter p xs ≡ filter_if {p = λ (x : A). p x ≡ true} (λ x. Bool-discrete (p x) true) xs
   keep_filter [] = refl
   keep_filter (x ∷ xs) = go (p x) (keep_filter xs)
     where
-      go : (b : Bool) {rest : List A} → keep p xs ≡ rest → cond b (x ∷ keep p xs) (keep p xs) ≡ ite {C = List A} (Bool-discrete b true) (x ∷ rest) rest
+      go : (b : Bool) {rest : List A} → filter p xs ≡ rest → cond b (x ∷ filter p xs) (filter p xs) ≡ ite {C = List A} (Bool-discrete b true) (x ∷ rest) rest
       go true e = ap {B = List A} (λ m. x ∷ m) e
       go false e = e
 
-  pub keep_perm : (xs ys : List A) → Perm xs ys → Perm (keep p xs) (keep p ys)
+  pub keep_perm : (xs ys : List A) → Perm xs ys → Perm (filter p xs) (filter p ys)
   keep_perm xs ys h = rw (keep_filter xs, keep_filter ys) (Perm.filter {p = λ (x : A). p x ≡ true} (λ x. Bool-discrete (p x) true) h)
 
-  pub tally_keep : (xs : List A) → tally p xs ≡ length (keep p xs)
+  pub tally_keep : (xs : List A) → tally p xs ≡ length (filter p xs)
   tally_keep [] = refl
   tally_keep (x ∷ xs) = go (p x) (tally_keep xs)
     where
-      go : (b : Bool) → tally p xs ≡ length (keep p xs) → cond b (suc (tally p xs)) (tally p xs) ≡ length (cond b (x ∷ keep p xs) (keep p xs))
+      go : (b : Bool) → tally p xs ≡ length (filter p xs) → cond b (suc (tally p xs)) (tally p xs) ≡ length (cond b (x ∷ filter p xs) (filter p xs))
       go true e = ap suc e
       go false e = e
 
@@ -107,16 +108,16 @@ module _ {A : Type 0} (p : A → Bool) where
       go false e = e
 
 module _ {A : Type 0} where
-  pub keep_same_test : (p q : A → Bool) → ((x : A) → p x ≡ q x) → (xs : List A) → keep p xs ≡ keep q xs
+  pub keep_same_test : (p q : A → Bool) → ((x : A) → p x ≡ q x) → (xs : List A) → filter p xs ≡ filter q xs
   keep_same_test p q h [] = refl
   keep_same_test p q h (x ∷ xs) = rw (h x, keep_same_test p q h xs)
 
   -- a test that passes less, after one that passes more
-  pub keep_keep : (p q : A → Bool) → ((x : A) → p x ≡ true → q x ≡ true) → (xs : List A) → keep p (keep q xs) ≡ keep p xs
+  pub keep_keep : (p q : A → Bool) → ((x : A) → p x ≡ true → q x ≡ true) → (xs : List A) → filter p (filter q xs) ≡ filter p xs
   keep_keep p q i [] = refl
   keep_keep p q i (x ∷ xs) = go (p x) (q x) refl refl (keep_keep p q i xs)
     where
-      go : (b c : Bool) → p x ≡ b → q x ≡ c → keep p (keep q xs) ≡ keep p xs → keep p (cond c (x ∷ keep q xs) (keep q xs)) ≡ cond b (x ∷ keep p xs) (keep p xs)
+      go : (b c : Bool) → p x ≡ b → q x ≡ c → filter p (filter q xs) ≡ filter p xs → filter p (cond c (x ∷ filter q xs) (filter q xs)) ≡ cond b (x ∷ filter p xs) (filter p xs)
       go true true h k e = rw (h, e)
       go true false h k e = absurd (true≢false (sym (i x h) ∙ k))
       go false true h k e = rw h e
@@ -134,44 +135,44 @@ module _ {A : Type 0} where
       go false false h k l = l
 
   -- what another test lets through is counted, what it stops is not
-  pub tally_through : (p q : A → Bool) → ((x : A) → p x ≡ true → q x ≡ true) → (xs : List A) → tally p (keep q xs) ≡ tally p xs
-  tally_through p q i xs = tally_keep p (keep q xs) ∙ ap length (keep_keep p q i xs) ∙ sym (tally_keep p xs)
+  pub tally_through : (p q : A → Bool) → ((x : A) → p x ≡ true → q x ≡ true) → (xs : List A) → tally p (filter q xs) ≡ tally p xs
+  tally_through p q i xs = tally_keep p (filter q xs) ∙ ap length (keep_keep p q i xs) ∙ sym (tally_keep p xs)
 
-  pub tally_stopped : (p q : A → Bool) → ((x : A) → p x ≡ true → q x ≡ false) → (xs : List A) → tally p (keep q xs) ≡ 0
+  pub tally_stopped : (p q : A → Bool) → ((x : A) → p x ≡ true → q x ≡ false) → (xs : List A) → tally p (filter q xs) ≡ 0
   tally_stopped p q i [] = refl
   tally_stopped p q i (x ∷ xs) = go (p x) (q x) refl refl (tally_stopped p q i xs)
     where
-      go : (b c : Bool) → p x ≡ b → q x ≡ c → tally p (keep q xs) ≡ 0 → tally p (cond c (x ∷ keep q xs) (keep q xs)) ≡ 0
+      go : (b c : Bool) → p x ≡ b → q x ≡ c → tally p (filter q xs) ≡ 0 → tally p (cond c (x ∷ filter q xs) (filter q xs)) ≡ 0
       go true true h k e = absurd (true≢false (sym k ∙ i x h))
       go true false h k e = e
       go false true h k e = rw h e
       go false false h k e = e
 
-  pub all_keep : (P : A → Type 0) (p : A → Bool) (xs : List A) → All P xs → All P (keep p xs)
+  pub all_keep : (P : A → Type 0) (p : A → Bool) (xs : List A) → All P xs → All P (filter p xs)
   all_keep P p [] h = tt
   all_keep P p (x ∷ xs) h = go (p x) (all_keep P p xs h.1)
     where
-      go : (b : Bool) → All P (keep p xs) → All P (cond b (x ∷ keep p xs) (keep p xs))
+      go : (b : Bool) → All P (filter p xs) → All P (cond b (x ∷ filter p xs) (filter p xs))
       go true i = (h.0, i)
       go false i = i
 
-  pub each_keep : (R : A → A → Type 0) (p : A → Bool) (xs : List A) → Each R xs → Each R (keep p xs)
+  pub each_keep : (R : A → A → Type 0) (p : A → Bool) (xs : List A) → Each R xs → Each R (filter p xs)
   each_keep R p [] h = tt
   each_keep R p (x ∷ xs) h = go (p x) (each_keep R p xs h.1)
     where
-      go : (b : Bool) → Each R (keep p xs) → Each R (cond b (x ∷ keep p xs) (keep p xs))
+      go : (b : Bool) → Each R (filter p xs) → Each R (cond b (x ∷ filter p xs) (filter p xs))
       go true i = (all_keep (R x) p xs h.0, i)
       go false i = i
 
-pub keep_map : {A B : Type 0} (p : B → Bool) (f : A → B) (xs : List A) → keep p (map f xs) ≡ map f (keep (λ (x : A). p (f x)) xs)
+pub keep_map : {A B : Type 0} (p : B → Bool) (f : A → B) (xs : List A) → filter p (map f xs) ≡ map f (filter (λ (x : A). p (f x)) xs)
 keep_map p f [] = refl
 keep_map {A} {B} p f (x ∷ xs) = go (p (f x)) (keep_map p f xs)
   where
-    go : (b : Bool) → keep p (map f xs) ≡ map f (keep (λ (x : A). p (f x)) xs) → cond b (f x ∷ keep p (map f xs)) (keep p (map f xs)) ≡ map f (cond b (x ∷ keep (λ (x : A). p (f x)) xs) (keep (λ (x : A). p (f x)) xs))
+    go : (b : Bool) → filter p (map f xs) ≡ map f (filter (λ (x : A). p (f x)) xs) → cond b (f x ∷ filter p (map f xs)) (filter p (map f xs)) ≡ map f (cond b (x ∷ filter (λ (x : A). p (f x)) xs) (filter (λ (x : A). p (f x)) xs))
     go true e = ap {B = List B} (λ m. f x ∷ m) e
     go false e = e
 
-pub keep_flat_map : {A B : Type 0} (p : B → Bool) (f : A → List B) (xs : List A) → keep p (flat_map f xs) ≡ flat_map (λ (x : A). keep p (f x)) xs
+pub keep_flat_map : {A B : Type 0} (p : B → Bool) (f : A → List B) (xs : List A) → filter p (flat_map f xs) ≡ flat_map (λ (x : A). filter p (f x)) xs
 unfolding flat_map
 keep_flat_map p f [] = refl
 keep_flat_map p f (x ∷ xs) = rw (keep_append, keep_flat_map p f xs)

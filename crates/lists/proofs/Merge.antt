@@ -8,7 +8,8 @@ use mathlib.Core.Logic.{inl}
 use mathlib.Core.Path.{◌≡◌, refl, sym, ap, ◌∙◌}
 use lib.ListN.{length, take, drop, set, get_or, length-append, length-map, length-take, length-set, take-append-drop}
 use lib.Seq.{slice, slice-cons, slice_empty, drop-cons, get_or-take, take_all, take-take, take-set-le, drop-set-lt, get_or-set_same, lt-length-set}
-use Rattle.lists.specs.Keep.{keep, last_place}
+use Rattle.std.specs.Prelude.{filter}
+use Rattle.lists.specs.Keep.{last_place}
 use Rattle.lists.specs.Sort.{insert_by, insert_all_by}
 use Rattle.lists.proofs.All.{All, all_map, all_get_d, each_first, each_last}
 use Rattle.lists.proofs.Keep.{keep_fewer}
@@ -136,10 +137,10 @@ module _ {A : Type 0} (r : A → A → Bool) (x d : A) (l₀ : List A) (w gap : 
 module _ {A B : Type 0} (f : A → B) (m : A → Bool) (src : List A) where
   -- of the first i sources
   abbrev pub new_of : ℕ → List B
-  new_of i = map f (keep m (take i src))
+  new_of i = map f (filter m (take i src))
 
   abbrev pub all_new : List B
-  all_new = map f (keep m src)
+  all_new = map f (filter m src)
 
 module _ {A B : Type 0} (f : A → B) (m : A → Bool) (r : B → B → Bool) (src : List A) (l₀ : List B) (w₀ : ℕ) where
   -- the list while the sources from i on are done: w old ones and `gap` new ones are left to place
@@ -164,7 +165,7 @@ module _ {A B : Type 0} (f : A → B) (m : A → Bool) (r : B → B → Bool) (s
 
   pub merge_start : Ascending r all → (n gap : ℕ) → n ≡ length src → gap ≡ length all → At l₀ n w₀ gap
   merge_start a n gap e g =
-      let whole : new n ≡ all = ap (λ (t : List A). map f (keep m t)) (take_all n src (omega arith)) in
+      let whole : new n ≡ all = ap (λ (t : List A). map f (filter m t)) (take_all n src (omega arith)) in
       record {
         left = g ∙ ap length (sym whole);
         few = omega arith;
@@ -178,11 +179,11 @@ module _ {A B : Type 0} (f : A → B) (m : A → Bool) (r : B → B → Bool) (s
   module _ (l : List B) (i w gap : ℕ) (s : At l i w gap) where
     -- no more are left than there were
     pub merge_few : gap ≤ length all
-    merge_few = omega (arith, s.left, length-map (keep m (take i src)) f, length-map (keep m src) f, keep_fewer m src i (length src) s.small, ap (λ (t : List A). length (keep m t)) (take_all (length src) src (omega arith)))
+    merge_few = omega (arith, s.left, length-map (filter m (take i src)) f, length-map (filter m src) f, keep_fewer m src i (length src) s.small, ap (λ (t : List A). length (filter m t)) (take_all (length src) src (omega arith)))
 
     module _ (some : 0 < gap) where
-      pub one_passes : 0 < length (keep m (take i src))
-      one_passes = omega (arith, s.left, length-map (keep m (take i src)) f)
+      pub one_passes : 0 < length (filter m (take i src))
+      one_passes = omega (arith, s.left, length-map (filter m (take i src)) f)
 
       -- the last source that passes stands at j
       module _ (d : A) (j : ℕ) (last : j ≡ last_place m (take i src)) where
@@ -190,7 +191,7 @@ module _ {A B : Type 0} (f : A → B) (m : A → Bool) (r : B → B → Bool) (s
         last_below = (keep_last m src i d j one_passes last).0
 
         new_more : new i ≡ new j ++ (f (get_or src j d) ∷ [])
-        new_more = ap (map f) (keep_last m src i d j one_passes last).1 ∙ map-append f (keep m (take j src)) (get_or src j d ∷ [])
+        new_more = ap (map f) (keep_last m src i d j one_passes last).1 ∙ map-append f (filter m (take j src)) (get_or src j d ∷ [])
 
         pub merge_more : (l' : List B) (w' : ℕ) → Slid r (f (get_or src j d)) l w gap w' l' → At l' j w' (gap - 1)
         merge_more l' w' slid =

@@ -9,7 +9,7 @@ use lib.ListN.{length, replicate, take, drop, set, get_or, length-append, length
 use lib.Seq.{set-append_seam, take_at, drop_at, get_or-take}
 use borrow.Author.Tests.{eqb-true}
 use Rattle.lists.specs.Judge.{all_of}
-use Rattle.lists.specs.Keep.{keep}
+use Rattle.std.specs.Prelude.{filter}
 use Rattle.lists.specs.Store.{pad_to, Rows, is_blank, content, stored, Stores}
 use Rattle.lists.proofs.All.{All, all_map, all_map₂, all_take, all_drop, all_replicate}
 use Rattle.lists.proofs.Array.{Shaped}
@@ -104,9 +104,9 @@ module _ {A : Type 0} (read : List ℕ → A) (write : A → List ℕ) (k width 
         ∙ ap (pad_to k (replicate width 0)) (sym (map-append write held (x ∷ [])))
 
     -- a test of what rows hold keeps the rows of what passes
-    pub stores_keep : ((x : A) → read (write x) ≡ x) → (p : A → Bool) → keep (λ (row : List ℕ). p (read row)) (take n places) ≡ map write (keep p held)
+    pub stores_keep : ((x : A) → read (write x) ≡ x) → (p : A → Bool) → filter (λ (row : List ℕ). p (read row)) (take n places) ≡ map write (filter p held)
     stores_keep back p =
-        ap (keep (λ (row : List ℕ). p (read row))) stores_rows
+        ap (filter (λ (row : List ℕ). p (read row))) stores_rows
         ∙ keep_map (λ (row : List ℕ). p (read row)) write held
         ∙ ap (map write) (keep_same_test (λ (x : A). p (read (write x))) p (λ x. ap p (back x)) held)
 

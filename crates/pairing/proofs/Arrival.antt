@@ -5,7 +5,7 @@ use mathlib.Core.List.{List, [], ◌∷◌, ◌++◌, append-nil, map, flat_map}
 use mathlib.Core.Path.{◌≡◌, refl, sym, ap, ◌∙◌}
 use Rattle.interval.specs.Interval.{proper_of, meeting_of}
 use Rattle.interval.proofs.Laws.{meeting_comm, meeting_start, meeting_later}
-use Rattle.lists.specs.Keep.{keep}
+use Rattle.std.specs.Prelude.{filter}
 use Rattle.lists.proofs.All.{All, Each, all_map₂, all_mapped, each_mapped}
 use Rattle.lists.proofs.Keep.{keep_passes, all_keep, each_keep}
 use Rattle.lists.proofs.Order.{Apart, Ascending}
@@ -24,28 +24,28 @@ abbrev pub pairing : Rule → Numbered → Numbered → Bool
 pairing rule x y = pairs rule x.entry y.entry
 
 -- the new pairs are those with each entry that pairs, in the order of those entries
-pub new_pairs_map : (rule : Rule) (side : Side) (x : Numbered) (others : List Numbered) → new_pairs rule side x others ≡ map (pair_from side x) (keep (pairing rule x) others)
+pub new_pairs_map : (rule : Rule) (side : Side) (x : Numbered) (others : List Numbered) → new_pairs rule side x others ≡ map (pair_from side x) (filter (pairing rule x) others)
 unfolding couples_that flat_map couple_that
 new_pairs_map rule A x others = append-nil (flat_map (couple_that (pairs rule) x) others) ∙ row others
   where
-    row : (ys : List Numbered) → flat_map (couple_that (pairs rule) x) ys ≡ map (pair_of x) (keep (pairing rule x) ys)
+    row : (ys : List Numbered) → flat_map (couple_that (pairs rule) x) ys ≡ map (pair_of x) (filter (pairing rule x) ys)
     row [] = refl
     row (y ∷ ys) = ap (λ (l : List Pair). cond (pairing rule x y) (pair_of x y ∷ []) [] ++ l) (row ys) ∙ go (pairing rule x y)
       where
-        go : (b : Bool) → cond b (pair_of x y ∷ []) [] ++ map (pair_of x) (keep (pairing rule x) ys) ≡ map (pair_of x) (cond b (y ∷ keep (pairing rule x) ys) (keep (pairing rule x) ys))
+        go : (b : Bool) → cond b (pair_of x y ∷ []) [] ++ map (pair_of x) (filter (pairing rule x) ys) ≡ map (pair_of x) (cond b (y ∷ filter (pairing rule x) ys) (filter (pairing rule x) ys))
         go true = refl
         go false = refl
 new_pairs_map rule B x others = column others
   where
-    column : (ys : List Numbered) → flat_map (λ (y : Numbered). flat_map (couple_that (pairs rule) y) (x ∷ [])) ys ≡ map (λ (y : Numbered). pair_of y x) (keep (pairing rule x) ys)
+    column : (ys : List Numbered) → flat_map (λ (y : Numbered). flat_map (couple_that (pairs rule) y) (x ∷ [])) ys ≡ map (λ (y : Numbered). pair_of y x) (filter (pairing rule x) ys)
     column [] = refl
     column (y ∷ ys) =
         ap (λ (l : List Pair). (cond (pairs rule y.entry x.entry) (pair_of y x ∷ []) [] ++ []) ++ l) (column ys)
-        ∙ ap (λ (b : Bool). (cond b (pair_of y x ∷ []) [] ++ []) ++ map (λ (y : Numbered). pair_of y x) (keep (pairing rule x) ys)) (pairs_comm rule y.entry x.entry)
+        ∙ ap (λ (b : Bool). (cond b (pair_of y x ∷ []) [] ++ []) ++ map (λ (y : Numbered). pair_of y x) (filter (pairing rule x) ys)) (pairs_comm rule y.entry x.entry)
         ∙ go (pairing rule x y)
       where
-        go : (b : Bool) → (cond b (pair_of y x ∷ []) [] ++ []) ++ map (λ (y : Numbered). pair_of y x) (keep (pairing rule x) ys)
-            ≡ map (λ (y : Numbered). pair_of y x) (cond b (y ∷ keep (pairing rule x) ys) (keep (pairing rule x) ys))
+        go : (b : Bool) → (cond b (pair_of y x ∷ []) [] ++ []) ++ map (λ (y : Numbered). pair_of y x) (filter (pairing rule x) ys)
+            ≡ map (λ (y : Numbered). pair_of y x) (cond b (y ∷ filter (pairing rule x) ys) (filter (pairing rule x) ys))
         go true = refl
         go false = refl
 
@@ -67,7 +67,7 @@ pair_from_later B x y z h =
 pub new_pairs_ascending : (rule : Rule) (side : Side) (x : Numbered) (others : List Numbered) → Each Later others → Ascending comes_before (new_pairs rule side x others)
 new_pairs_ascending rule side x others h =
     rw (new_pairs_map rule side x others)
-    (each_mapped (pair_from side x) Later (λ (p q : Pair). comes_before p q ≡ true) (pair_from_later side x) (keep (pairing rule x) others) (each_keep Later (pairing rule x) others h))
+    (each_mapped (pair_from side x) Later (λ (p q : Pair). comes_before p q ≡ true) (pair_from_later side x) (filter (pairing rule x) others) (each_keep Later (pairing rule x) others h))
 
 -- ---- a pair, seen from one of its sides
 
@@ -112,6 +112,6 @@ pub all_new_pairs : (P : Pair → Type 0) (Q : Numbered → Type 0) (rule : Rule
     → ((y : Numbered) → Q y → pairing rule x y ≡ true → P (pair_from side x y)) → All Q others → All P (new_pairs rule side x others)
 all_new_pairs P Q rule side x others f h =
     rw (new_pairs_map rule side x others)
-    (all_mapped (pair_from side x) (λ (y : Numbered). Q y × (pairing rule x y ≡ true)) P (λ y q. f y q.0 q.1) (keep (pairing rule x) others)
-    (all_map₂ Q (λ (y : Numbered). pairing rule x y ≡ true) (λ (y : Numbered). Q y × (pairing rule x y ≡ true)) (λ y q e. (q, e)) (keep (pairing rule x) others)
+    (all_mapped (pair_from side x) (λ (y : Numbered). Q y × (pairing rule x y ≡ true)) P (λ y q. f y q.0 q.1) (filter (pairing rule x) others)
+    (all_map₂ Q (λ (y : Numbered). pairing rule x y ≡ true) (λ (y : Numbered). Q y × (pairing rule x y ≡ true)) (λ y q e. (q, e)) (filter (pairing rule x) others)
     (all_keep Q (pairing rule x) others h) (keep_passes (pairing rule x) others)))

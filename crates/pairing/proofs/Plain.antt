@@ -7,7 +7,7 @@ use mathlib.Core.List.{List, [], ◌∷◌, ◌++◌, flat_map, Perm}
 use mathlib.Core.Path.{◌≡◌, refl, ap, ◌∙◌}
 use lib.ListN.{length}
 use Rattle.interval.specs.Interval.{holds_at, meeting_of}
-use Rattle.lists.specs.Keep.{keep}
+use Rattle.std.specs.Prelude.{filter}
 use Rattle.lists.specs.Sort.{insert_all_by}
 use Rattle.lists.proofs.All.{All, Each, all_any, all_map}
 use Rattle.lists.proofs.FlatMap.{flat_map_same, all_flat_map, each_flat_map}
@@ -130,26 +130,26 @@ plain_b rule of_a of_b e =
 
 -- ---- the pairs at an instant
 
-couple_at : (t : ℕ) (rule : Rule) (a b : Numbered) → keep (λ (p : Pair). holds_at t p.meeting) (couple_that (pairs rule) a b) ≡ couple_that (match_at t rule) a b
+couple_at : (t : ℕ) (rule : Rule) (a b : Numbered) → filter (λ (p : Pair). holds_at t p.meeting) (couple_that (pairs rule) a b) ≡ couple_that (match_at t rule) a b
 unfolding couple_that
 couple_at t rule a b =
     go (pairs rule a.entry b.entry) (holds_at t (meeting_of a.entry.span b.entry.span)) (match_at t rule a.entry b.entry)
     (pairs_at rule a.entry b.entry t) (ap (holds_at t) (pair_meeting a b))
   where
-    go : (x y z : Bool) → x && y ≡ z → holds_at t (pair_of a b).meeting ≡ y → keep (λ (p : Pair). holds_at t p.meeting) (cond x (pair_of a b ∷ []) []) ≡ cond z (pair_of a b ∷ []) []
+    go : (x y z : Bool) → x && y ≡ z → holds_at t (pair_of a b).meeting ≡ y → filter (λ (p : Pair). holds_at t p.meeting) (cond x (pair_of a b ∷ []) []) ≡ cond z (pair_of a b ∷ []) []
     go true y z e h = rw (h, e)
     go false y z e h = rw (← e)
 
-couples_at_lem : (t : ℕ) (rule : Rule) (of_a of_b : List Numbered) → keep (λ (p : Pair). holds_at t p.meeting) (couples_that (pairs rule) of_a of_b) ≡ couples_that (match_at t rule) of_a of_b
+couples_at_lem : (t : ℕ) (rule : Rule) (of_a of_b : List Numbered) → filter (λ (p : Pair). holds_at t p.meeting) (couples_that (pairs rule) of_a of_b) ≡ couples_that (match_at t rule) of_a of_b
 unfolding couples_that
 couples_at_lem t rule of_a of_b =
     let now : Pair → Bool = λ p. holds_at t p.meeting in
     keep_flat_map now (λ (a : Numbered). flat_map (couple_that (pairs rule) a) of_b) of_a
-    ∙ flat_map_same (λ (a : Numbered). keep now (flat_map (couple_that (pairs rule) a) of_b)) (λ (a : Numbered). flat_map (couple_that (match_at t rule) a) of_b)
-    (λ a. keep_flat_map now (couple_that (pairs rule) a) of_b ∙ flat_map_same (λ (b : Numbered). keep now (couple_that (pairs rule) a b)) (couple_that (match_at t rule) a) (couple_at t rule a) of_b) of_a
+    ∙ flat_map_same (λ (a : Numbered). filter now (flat_map (couple_that (pairs rule) a) of_b)) (λ (a : Numbered). flat_map (couple_that (match_at t rule) a) of_b)
+    (λ a. keep_flat_map now (couple_that (pairs rule) a) of_b ∙ flat_map_same (λ (b : Numbered). filter now (couple_that (pairs rule) a b)) (couple_that (match_at t rule) a) (couple_at t rule a) of_b) of_a
 
 -- with repeats, the pairs of the plain list that hold at t are the matching couples of entries that hold at t
-pub plain_at : (t : ℕ) (rule : Rule) (of_a of_b : List Entry) → Perm (keep (λ (p : Pair). holds_at t p.meeting) (plain rule of_a of_b)) (couples_at t rule of_a of_b)
+pub plain_at : (t : ℕ) (rule : Rule) (of_a of_b : List Entry) → Perm (filter (λ (p : Pair). holds_at t p.meeting) (plain rule of_a of_b)) (couples_at t rule of_a of_b)
 unfolding couples_at
 plain_at t rule of_a of_b =
     rw (couples_at_lem t rule (numbered_from 0 of_a) (numbered_from 0 of_b)) at

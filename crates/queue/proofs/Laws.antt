@@ -10,7 +10,7 @@ use lib.ListN.{length, replicate, take, drop, get_or, length-map, length-drop, d
 use lib.Seq.{slice, get_or-take, length-take-le}
 use borrow.Author.Tests.{leb-true}
 use Rattle.lists.specs.Judge.{all_of, chain}
-use Rattle.lists.specs.Keep.{keep}
+use Rattle.std.specs.Prelude.{filter}
 use Rattle.lists.specs.Sort.{insert_by, insert_all_by}
 use Rattle.lists.specs.Store.{pad_to, Rows, is_blank}
 use Rattle.lists.proofs.All.{All, each_map, each_mapped}
@@ -58,10 +58,10 @@ map_map : {A B C : Type 0} (g : B → C) (f : A → B) (xs : List A) → map g (
 map_map g f [] = refl
 map_map {A} {B} {C} g f (x ∷ xs) = ap {B = List C} (λ l. g (f x) ∷ l) (map_map g f xs)
 
-pub new_rows : (rule : Rule) (side : Side) (x : Numbered) (others : List Numbered) → map (new_row side x) (keep (pairing rule x) others) ≡ map pair_numbers (new_pairs rule side x others)
-new_rows rule side x others = sym (ap (map pair_numbers) (new_pairs_map rule side x others) ∙ map_map pair_numbers (pair_from side x) (keep (pairing rule x) others))
+pub new_rows : (rule : Rule) (side : Side) (x : Numbered) (others : List Numbered) → map (new_row side x) (filter (pairing rule x) others) ≡ map pair_numbers (new_pairs rule side x others)
+new_rows rule side x others = sym (ap (map pair_numbers) (new_pairs_map rule side x others) ∙ map_map pair_numbers (pair_from side x) (filter (pairing rule x) others))
 
-pub new_ascending : (rule : Rule) (side : Side) (x : Numbered) (others : List Numbered) → chain comes_before (new_pairs rule side x others) ≡ true → Ascending row_before (map (new_row side x) (keep (pairing rule x) others))
+pub new_ascending : (rule : Rule) (side : Side) (x : Numbered) (others : List Numbered) → chain comes_before (new_pairs rule side x others) ≡ true → Ascending row_before (map (new_row side x) (filter (pairing rule x) others))
 new_ascending rule side x others sorted =
     rw (new_rows rule side x others)
     (each_mapped pair_numbers (λ (p q : Pair). comes_before p q ≡ true) (λ (a b : List ℕ). row_before a b ≡ true) (λ p q e. ap (λ (y : Pair). comes_before y (pair_in (pair_numbers q))) (pair_numbers_lem p) ∙ ap (comes_before p) (pair_numbers_lem q) ∙ e)
@@ -134,11 +134,11 @@ module _ (queue : Queue) (rows : Rows) (h : Holds queue rows) where
   -- the first k are ready and the next is not, or there is no next
   pub ready_first : (a b : Gate) (k : ℕ) → chain comes_before (waiting queue rows) ≡ true → k ≤ queue.count → all_of (λ (row : List ℕ). ready a b (pair_in row)) (take k rows) ≡ true
       → (k ≡ queue.count) ⊎ ((k < queue.count) × (ready a b (pair_in (get_or rows k [])) ≡ false))
-      → (k ≡ length (keep (ready a b) (waiting queue rows))) × (take k (waiting queue rows) ≡ keep (ready a b) (waiting queue rows))
+      → (k ≡ length (filter (ready a b) (waiting queue rows))) × (take k (waiting queue rows) ≡ filter (ready a b) (waiting queue rows))
   ready_first a b k sorted few firsts stop =
       let ps = waiting queue rows in
       let first : take k ps ≡ map pair_in (take k rows) = map_take k queue.count rows few in
-      let kept : keep (ready a b) ps ≡ take k ps = keep_first (ready a b) ps k (rw first (all_of_all (ready a b) (map pair_in (take k rows)) (all_of_map pair_in (ready a b) (take k rows) ∙ firsts))) (rest stop) in
+      let kept : filter (ready a b) ps ≡ take k ps = keep_first (ready a b) ps k (rw first (all_of_all (ready a b) (map pair_in (take k rows)) (all_of_map pair_in (ready a b) (take k rows) ∙ firsts))) (rest stop) in
       (sym (ap length kept ∙ length-take-le k ps (omega (arith, waiting_length))), sym kept)
     where
       map_take : (k n : ℕ) (l : Rows) → k ≤ n → take k (map pair_in (take n l)) ≡ map pair_in (take k l)

@@ -3,7 +3,7 @@ use Prim.Native.Nat.{ℕ, ◌≤◌}
 use mathlib.Core.Bool.{true, false}
 use mathlib.Core.List.{List, ◌∷◌, ◌++◌}
 use mathlib.Core.Path.{◌≡◌}
-use Rattle.lists.specs.Keep.{keep}
+use Rattle.std.specs.Prelude.{filter}
 use Rattle.lists.proofs.Order.{Ascending}
 use Rattle.pairing.specs.declared.Pair.{Pair}
 use Rattle.pairing.specs.Pair.{comes_before}
@@ -18,7 +18,7 @@ use Rattle.queue.specs.Queue.{ready}
 abbrev pub start : Pair → ℕ
 start p = p.meeting.start
 
-pub keep_ready_comm : (a b : Gate) (ps : List Pair) → keep (ready a b) ps ≡ keep (ready b a) ps
+pub keep_ready_comm : (a b : Gate) (ps : List Pair) → filter (ready a b) ps ≡ filter (ready b a) ps
 unfolding ready
 keep_ready_comm = keep_due_comm start
 
@@ -26,11 +26,11 @@ pub ready_ahead : (a b : Gate) (time : ℕ) → Onward a (Open time) → (p : Pa
 unfolding ready
 ready_ahead = due_ahead start
 
-pub ready_head : (a b : Gate) (q : Pair) (qs : List Pair) → Ascending comes_before (q ∷ qs) → (p : Pair) (ps : List Pair) → keep (ready a b) (q ∷ qs) ≡ p ∷ ps → ready a b q ≡ true
+pub ready_head : (a b : Gate) (q : Pair) (qs : List Pair) → Ascending comes_before (q ∷ qs) → (p : Pair) (ps : List Pair) → filter (ready a b) (q ∷ qs) ≡ p ∷ ps → ready a b q ≡ true
 unfolding ready
 ready_head = due_head start comes_before before_start
 
-pub ready_grows : (a b next_a next_b : Gate) → Onward a next_a → Onward b next_b → (ps next : List Pair) → keep (ready a b) next ≡ keep (ready a b) ps → Ascending comes_before next
-    → (new : List Pair) × (keep (ready next_a next_b) next ≡ keep (ready a b) ps ++ new)
+pub ready_grows : (a b next_a next_b : Gate) → Onward a next_a → Onward b next_b → (ps next : List Pair) → filter (ready a b) next ≡ filter (ready a b) ps → Ascending comes_before next
+    → (new : List Pair) × (filter (ready next_a next_b) next ≡ filter (ready a b) ps ++ new)
 unfolding ready
 ready_grows = due_grows start comes_before before_start

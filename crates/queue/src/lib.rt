@@ -4,7 +4,7 @@
 ghost use Rattle.std.specs.Prelude.{◌≡◌, true, [], ◌++◌, ◌+◌, ◌-◌, ◌≤◌, ◌<◌, length, get_or, take, drop, replicate};
 ghost use Rattle.std.proofs.Math.Seq.{slice};
 ghost use Rattle.lists.specs.Judge.{all_of, chain};
-ghost use Rattle.lists.specs.Keep.{keep};
+ghost use Rattle.std.specs.Prelude.{filter};
 ghost use Rattle.lists.specs.Sort.{insert_all_by};
 ghost use Rattle.lists.specs.Store.{is_blank};
 ghost use Rattle.lists.proofs.Array.{Shaped};
@@ -253,8 +253,8 @@ impl Queue {
     // How many of the waiting pairs, from the first on, are ready?
     pub fn ready(self, rows: &Places, a: Gate, b: Gate) -> usize
         requires { (Holds self rows.now) × (chain comes_before (waiting self rows.now) ≡ true) }
-        ensures value { result ≡ length (keep (ready a b) (waiting self rows.now)) }
-        ensures rows_value { take result (waiting self rows.now) ≡ keep (ready a b) (waiting self rows.now) }
+        ensures value { result ≡ length (filter (ready a b) (waiting self rows.now)) }
+        ensures rows_value { take result (waiting self rows.now) ≡ filter (ready a b) (waiting self rows.now) }
     {
         let n = self.count;
         let mut k = 0;

@@ -1,41 +1,55 @@
-// The numbers of the table of refusals, under the names by which the code gives them.
+// The table of refusals: why a call, a reading or a writing is refused, and with which number.
 #![tactic(auto)]
 
-// Stream is neither 0 nor 1.
-pub const STREAM: u32 = 1;
+ghost use Rattle.std.specs.Prelude.{◌≡◌};
+ghost use Rattle.refusals.specs.Table.{number_of};
 
-// That journal is closed.
-pub const CLOSED: u32 = 2;
+use std::error::Error;
+use std::fmt;
 
-// Start not below end.
-pub const IMPROPER: u32 = 3;
+#[derive(Clone, Copy, Debug, PartialEq, Eq)]
+pub enum Refusal {
+    // Stream is neither 0 nor 1.
+    Stream = 1,
+    // That journal is closed.
+    Closed,
+    // Start not below end.
+    Improper,
+    // Start, or mark, below the journal's clock.
+    Behind,
+    // 1,000,000 entries already accepted.
+    Spent,
+    // The entry is wanted and its area already holds 64.
+    AreaFull,
+    // Waiting pairs plus new pairs exceed 256.
+    QueueFull,
+    // The state given is not sound.
+    Unsound,
+    // The feed ends inside a record.
+    Cut,
+    // Length wrong for the kind, below 2 or above 66.
+    Length,
+    // Kind not known in this feed.
+    Kind,
+    // Lent buffer shorter than the record.
+    Buffer,
+    // Near rule and key not below 36,000.
+    NoAngle,
+}
 
-// Start, or mark, below the journal's clock.
-pub const BEHIND: u32 = 4;
+impl Refusal {
+    // Its number in the table.
+    pub fn number(self) -> u32
+        ensures { result ≡ number_of self }
+    {
+        self as u32
+    }
+}
 
-// 1,000,000 entries already accepted.
-pub const SPENT: u32 = 5;
+impl fmt::Display for Refusal {
+    fn fmt<W: fmt::Write>(&self, f: &mut fmt::Formatter<W>) -> fmt::Result {
+        write!(f, "{}", self.number())
+    }
+}
 
-// The entry is wanted and its area already holds 64.
-pub const AREA_FULL: u32 = 6;
-
-// Waiting pairs plus new pairs exceed 256.
-pub const QUEUE_FULL: u32 = 7;
-
-// The state given is not sound.
-pub const UNSOUND: u32 = 8;
-
-// The feed ends inside a record.
-pub const CUT: u32 = 9;
-
-// Length wrong for the kind, below 2 or above 66.
-pub const LENGTH: u32 = 10;
-
-// Kind not known in this feed.
-pub const KIND: u32 = 11;
-
-// Lent buffer shorter than the record.
-pub const BUFFER: u32 = 12;
-
-// Near rule and key not below 36,000.
-pub const NO_ANGLE: u32 = 13;
+impl Error for Refusal {}

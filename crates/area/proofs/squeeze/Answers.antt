@@ -5,7 +5,7 @@ use mathlib.Core.Bool.{Bool}
 use mathlib.Core.List.{List, []}
 use mathlib.Core.Path.{◌≡◌, refl, sym, ap, ◌∙◌}
 use lib.ListN.{length, take, drop, length-set}
-use Rattle.lists.specs.Keep.{keep}
+use Rattle.std.specs.Prelude.{filter}
 use Rattle.lists.proofs.InPlace.{squeeze_kept, squeeze_left, squeeze_next}
 use Rattle.pairing.specs.declared.Numbered.{Numbered}
 use Rattle.journal.specs.Journal.{wanted}
@@ -37,7 +37,7 @@ pub returns : goal.returns
 returns c =
     let e : c.loop-i.i ≡ c.args.n = omega arith in (
       omega arith,
-      c.loop-i.invariant.2 ∙ ap (λ (m : ℕ). keep (λ (row : List ℕ). wanted c.args.gate (held_in row).entry) (take m c.args.rows.now)) e,
+      c.loop-i.invariant.2 ∙ ap (λ (m : ℕ). filter (λ (row : List ℕ). wanted c.args.gate (held_in row).entry) (take m c.args.rows.now)) e,
       ap (λ (m : ℕ). drop m c.loop-i.rows) (sym e) ∙ c.loop-i.invariant.3 ∙ ap (λ (m : ℕ). drop m c.args.rows.now) e,
       c.loop-i.invariant.4,
     )

@@ -4,7 +4,8 @@ use native.Mathlib.Omega.{arith}
 use mathlib.Core.List.{List}
 use mathlib.Core.Path.{◌≡◌, refl, sym, ap, ◌∙◌}
 use lib.ListN.{length, take}
-use Rattle.lists.specs.Keep.{keep, last_place}
+use Rattle.std.specs.Prelude.{filter}
+use Rattle.lists.specs.Keep.{last_place}
 use Rattle.lists.proofs.Keep.{keep_bound, kept_same}
 use Rattle.lists.proofs.Last.{last_here, last_lower}
 use Rattle.pairing.specs.declared.Entry.{Entry}
@@ -50,6 +51,6 @@ loop-self-preserved c =
     let inside : c.loop-self.i - 1 < length xs = omega (arith, some, held_long c.args.self c.args.rows.now c.requires.1 c.requires.2) in
     let up : c.loop-self.i ≡ c.loop-self.i - 1 + 1 = omega (arith, some) in (
       omega arith,
-      omega (arith, c.loop-self.invariant.1, ap (λ (k : ℕ). length (keep test (take k xs))) up, kept_same test xs (c.loop-self.i - 1) no_entry inside tested),
+      omega (arith, c.loop-self.invariant.1, ap (λ (k : ℕ). length (filter test (take k xs))) up, kept_same test xs (c.loop-self.i - 1) no_entry inside tested),
       c.loop-self.invariant.2 ∙ ap (λ (k : ℕ). last_place test (take k xs)) up ∙ last_lower test xs (c.loop-self.i - 1) no_entry inside tested,
     )
