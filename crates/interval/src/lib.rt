@@ -5,7 +5,7 @@ ghost use Rattle.std.specs.Prelude.{◌≡◌, max, min};
 ghost use Rattle.interval.specs.Interval.{holds_at, proper_of, length_of, meeting_of};
 
 // From start up to end, the end left out.
-#[derive(Clone, Copy)]
+#[derive(Clone, Copy, Debug, Default, PartialEq, Eq)]
 pub struct Interval {
     pub start: u32,
     pub end: u32,

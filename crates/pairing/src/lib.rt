@@ -9,7 +9,7 @@ ghost use Rattle.pairing.specs.Side.{pair_from};
 use interval::{Interval, larger, smaller};
 
 // What a journal says from the start of the span up to its end.
-#[derive(Clone, Copy)]
+#[derive(Clone, Copy, Debug, Default, PartialEq, Eq)]
 pub struct Entry {
     pub span: Interval,
     pub key: u32,
@@ -17,21 +17,21 @@ pub struct Entry {
 }
 
 // An accepted entry, with how many its journal accepted before it.
-#[derive(Clone, Copy)]
+#[derive(Clone, Copy, Debug, Default, PartialEq, Eq)]
 pub struct Numbered {
     pub entry: Entry,
     pub ordinal: u32,
 }
 
 // Of which journal.
-#[derive(Clone, Copy)]
+#[derive(Clone, Copy, Debug, PartialEq, Eq)]
 pub enum Side {
     A,
     B,
 }
 
 // Which keys pair.
-#[derive(Clone, Copy)]
+#[derive(Clone, Copy, Debug, PartialEq, Eq)]
 pub enum Rule {
     Equal,
     // Angles at most this far apart, either way round.
@@ -40,7 +40,7 @@ pub enum Rule {
 }
 
 // What a pair carries of one of its entries.
-#[derive(Clone, Copy)]
+#[derive(Clone, Copy, Debug, Default, PartialEq, Eq)]
 pub struct Partner {
     pub ordinal: u32,
     pub key: u32,
@@ -48,7 +48,7 @@ pub struct Partner {
 }
 
 // Where an A entry and a B entry meet.
-#[derive(Clone, Copy)]
+#[derive(Clone, Copy, Debug, Default, PartialEq, Eq)]
 pub struct Pair {
     pub meeting: Interval,
     pub a: Partner,
