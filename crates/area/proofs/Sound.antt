@@ -3,17 +3,16 @@ use Prim.Native.Nat.{ℕ, ◌≤◌, ◌<◌}
 use native.Mathlib.Omega.{arith}
 use mathlib.Core.Bool.{Bool, true, false, cond}
 use mathlib.Core.List.{List, [], ◌∷◌, ◌++◌, append-nil}
-use mathlib.Core.Path.{◌≡◌, refl, ap}
+use mathlib.Core.Path.{◌≡◌, refl, sym}
 use lib.Dec.{ltb}
 use lib.ListN.{length, length-append}
 use borrow.Author.Tests.{ltb-true, leb-true, lt-ltb, le-leb}
 use Rattle.interval.specs.Interval.{proper_of}
-use Rattle.lists.specs.Store.{Rows}
 use Rattle.lists.proofs.All.{All, Each, all_map, all_map₂, all_append, each_map, each_append}
 use Rattle.lists.proofs.Bools.{and_left, and_right}
 use Rattle.lists.proofs.Judge.{all_of_all, all_all_of, chain_each, each_chain}
 use Rattle.lists.proofs.Keep.{keep_passes, keep_length, all_keep, each_keep}
-use Rattle.lists.proofs.Store.{content_length, content_stored, stores_stored, spare_stored}
+use Rattle.lists.proofs.Store.{pad_to_take, stored_length, stores_stored, spare_stored}
 use Rattle.pairing.specs.declared.Entry.{Entry}
 use Rattle.pairing.specs.declared.Numbered.{Numbered}
 use Rattle.pairing.specs.declared.Rule.{Rule}
@@ -25,25 +24,25 @@ use Rattle.journal.specs.declared.Journal.{Journal}
 use Rattle.journal.specs.Journal.{wanted, not_past, moved, entered}
 use Rattle.journal.proofs.Onward.{Onward, not_past_onward}
 use Rattle.area.specs.declared.Area.{Area}
-use Rattle.area.specs.Area.{held_in, width, row_of, most, places, held, area_of, rows_of, Holds, wanted_by, sound_entry, follows, sound_area}
-use Rattle.area.proofs.Laws.{most_fits, held_row, area_passes}
+use Rattle.area.specs.Area.{most, places, held, no_entry, area_of, Holds, wanted_by, sound_entry, follows, spare_entry, sound_area}
+use Rattle.area.proofs.Laws.{most_fits, none_spare, area_passes}
 
 -- ---- the area that stores some entries
 
 -- it holds them
-pub held_stored : (xs : List Numbered) → held (area_of xs) (rows_of xs) ≡ xs
-held_stored xs = content_stored held_in row_of places width held_row xs (length xs) refl
+pub held_stored : (xs : List Numbered) → held (area_of xs) ≡ xs
+held_stored xs = pad_to_take places no_entry xs (length xs) refl
 
-pub holds_stored : (xs : List Numbered) → length xs ≤ most → Holds (area_of xs) (rows_of xs)
-holds_stored xs h = stores_stored held_in row_of places width held_row xs (length xs) refl (omega (arith, most_fits))
+pub holds_stored : (xs : List Numbered) → length xs ≤ most → Holds (area_of xs)
+holds_stored xs h = stores_stored no_entry places xs (length xs) refl (omega (arith, most_fits))
 
 -- it is the one that does
-module _ (area : Area) (rows : Rows) (h : Holds area rows) where
-  pub held_length : length (held area rows) ≡ area.count
-  held_length = content_length held_in row_of places width area.count rows h
+module _ (area : Area) (h : Holds area) where
+  pub held_length : length (held area) ≡ area.count
+  held_length = stored_length no_entry places area.count area.places h
 
-  pub area_held : area_of (held area rows) ≡ area
-  area_held = ap (λ (n : ℕ). record { count = n }) held_length
+  pub area_held : area_of (held area) ≡ area
+  area_held = λ i. record { count = held_length i; places = sym h.same i }
 
 -- ---- the judge's tests as facts
 
@@ -92,18 +91,18 @@ module _ (rule : Rule) (own : Journal) (other : Gate) where
   entry_judged x h = rw (h.proper, h.needed, lt-ltb x.ordinal own.accepted h.numbered, h.started, h.allowed)
 
   -- what the judge passes
-  pub judged_held : (area : Area) (rows : Rows) → Holds area rows → sound_area rule own other area rows ≡ true → SoundHeld rule own other (held area rows)
-  judged_held area rows h e =
-      let xs = held area rows in
-      let all = area_passes rule own other area rows e in
+  pub judged_held : (area : Area) → Holds area → sound_area rule own other area ≡ true → SoundHeld rule own other (held area)
+  judged_held area h e =
+      let xs = held area in
+      let all = area_passes rule own other area e in
       record {
-        few = omega (arith, held_length area rows h, leb-true area.count most all.few_pass);
+        few = omega (arith, held_length area h, leb-true area.count most all.few_pass);
         sounds = all_map (λ (x : Numbered). sound_entry rule own other x ≡ true) (SoundEntry rule own other) entry_facts xs (all_of_all (sound_entry rule own other) xs all.sounds_pass);
         laters = each_map (λ (x y : Numbered). follows x y ≡ true) Later follows_later xs (chain_each follows follows_trans xs all.order_pass);
       }
 
   -- passes the judge
-  pub held_judged : (xs : List Numbered) → SoundHeld rule own other xs → sound_area rule own other (area_of xs) (rows_of xs) ≡ true
+  pub held_judged : (xs : List Numbered) → SoundHeld rule own other xs → sound_area rule own other (area_of xs) ≡ true
   unfolding sound_area
   held_judged xs h =
       rw (
@@ -111,7 +110,7 @@ module _ (rule : Rule) (own : Journal) (other : Gate) where
         le-leb (length xs) most h.few,
         all_all_of (sound_entry rule own other) xs (all_map (SoundEntry rule own other) (λ (x : Numbered). sound_entry rule own other x ≡ true) entry_judged xs h.sounds),
         each_chain follows xs (each_map Later (λ (x y : Numbered). follows x y ≡ true) later_follows xs h.laters),
-        spare_stored held_in row_of places width held_row xs (length xs) refl,
+        spare_stored no_entry places xs (length xs) refl spare_entry none_spare,
       )
 
   -- nothing held is sound

@@ -1,9 +1,7 @@
--- The contract of each public function allows one result, and one content of the places that it is lent.
+-- The contract of each public function allows one result, and one area after it.
 use Rattle.unique.specs.Unique.{OneResult, OneOutcome}
-use Rattle.unique.proofs.Equation.{one_by_equation, agree, agree_both}
-use Rattle.lists.specs.Store.{Rows}
+use Rattle.unique.proofs.Equation.{one_by_equation, agree}
 use Rattle.area.specs.declared.Area.{Area}
-use Rattle.area.proofs.no_places.Reads as no-places
 use Rattle.area.proofs.Area.fresh.Reads as fresh
 use Rattle.area.proofs.Area.hold.Reads as hold
 use Rattle.area.proofs.Area.clear.Reads as clear
@@ -13,17 +11,14 @@ use Rattle.area.proofs.Area.last_partner.Reads as last-partner
 use Rattle.area.proofs.Area.left_by.Reads as left_by
 use Rattle.area.proofs.Area.sound.Reads as sound
 
-one_no_places : OneResult no-places.Post
-one_no_places = one_by_equation _ _
-
 one_fresh : OneResult fresh.Post
 one_fresh = one_by_equation _ _
 
-one_hold : OneOutcome {Seen = Area × Rows} (λ κs area left. (area, left.1.0.now)) hold.Post
-one_hold κs args x y left other p q = agree_both p q
+one_hold : OneOutcome {Seen = Area} (λ κs result left. left.0.now) hold.Post
+one_hold κs args x y left other p q = agree p q
 
-one_clear : OneOutcome {Seen = Area × Rows} (λ κs area left. (area, left.1.0.now)) clear.Post
-one_clear κs args x y left other p q = agree_both p q
+one_clear : OneOutcome {Seen = Area} (λ κs result left. left.0.now) clear.Post
+one_clear κs args x y left other p q = agree p q
 
 one_entry_at : OneResult entry_at.Post
 one_entry_at = one_by_equation _ _

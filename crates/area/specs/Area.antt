@@ -1,9 +1,9 @@
--- The area of a journal: up to 64 held entries with their ordinals, in places that the caller lends.
-use Rattle.std.specs.Prelude.{ℕ, Bool, ◌&&◌, List, [], ◌∷◌, ltb, leb, length, drop, get_or}
+-- The area of a journal: up to 64 held entries with their ordinals. The count and the places are the area itself.
+use Rattle.std.specs.Prelude.{ℕ, Bool, ◌&&◌, List, [], ◌∷◌, ltb, leb, length, take, drop, filter}
+use Rattle.std.specs.List.{list_all}
 use Rattle.interval.specs.Interval.{proper_of}
-use Rattle.lists.specs.Judge.{all_of, chain}
-use Rattle.std.specs.Prelude.{filter}
-use Rattle.lists.specs.Store.{Rows, is_blank, content, stored, Stores}
+use Rattle.lists.specs.Judge.{chain}
+use Rattle.lists.specs.Store.{pad_to, is_blank, Stores}
 use Rattle.pairing.specs.declared.Entry.{Entry}
 use Rattle.pairing.specs.declared.Numbered.{Numbered}
 use Rattle.pairing.specs.declared.Rule.{Rule}
@@ -14,15 +14,9 @@ use Rattle.journal.specs.declared.Journal.{Journal}
 use Rattle.journal.specs.Journal.{wanted, not_past}
 use Rattle.area.specs.declared.Area.{Area}
 
--- a place holds start, end, key, value and ordinal
-abbrev pub width : ℕ
-width = 5
-
-unfoldable pub held_in : List ℕ → Numbered
-held_in row = record { entry = record { span = record { start = get_or row 0 0; end = get_or row 1 0 }; key = get_or row 2 0; value = get_or row 3 0 }; ordinal = get_or row 4 0 }
-
-unfoldable pub row_of : Numbered → List ℕ
-row_of x = x.entry.span.start ∷ x.entry.span.end ∷ x.entry.key ∷ x.entry.value ∷ x.ordinal ∷ []
+-- the numbers of a place: start, end, key, value and ordinal
+unfoldable pub entry_numbers : Numbered → List ℕ
+entry_numbers x = x.entry.span.start ∷ x.entry.span.end ∷ x.entry.key ∷ x.entry.value ∷ x.ordinal ∷ []
 
 -- Limits: 64 held entries an area.
 abbrev pub most : ℕ
@@ -33,22 +27,19 @@ abbrev pub places : ℕ
 places = most
 
 -- what an area holds, in the order of its places
-abbrev pub held : Area → Rows → List Numbered
-held area rows = content held_in area.count rows
+abbrev pub held : Area → List Numbered
+held area = take area.count area.places
 
 -- zeros, where no entry is held
 abbrev pub no_entry : Numbered
-no_entry = held_in []
+no_entry = record { entry = record { span = record { start = 0; end = 0 }; key = 0; value = 0 }; ordinal = 0 }
 
--- the area, and the one value of its places, that hold some entries. Places beyond a count hold zeros.
+-- the one area that holds some entries. Places beyond the count hold zeros.
 abbrev pub area_of : List Numbered → Area
-area_of xs = record { count = length xs }
+area_of xs = record { count = length xs; places = pad_to places no_entry xs }
 
-abbrev pub rows_of : List Numbered → Rows
-rows_of xs = stored row_of places width xs
-
-abbrev pub Holds : Area → Rows → Type 0
-Holds area rows = Stores held_in row_of places width area.count rows
+abbrev pub Holds : Area → Type 0
+Holds area = Stores no_entry places area.count area.places
 
 -- the entries that pair with e, whichever journal it is of: to pair is the same either way round
 abbrev pub partners : Rule → Entry → List Numbered → List Numbered
@@ -67,10 +58,14 @@ sound_entry rule own other x =
 abbrev pub follows : Numbered → Numbered → Bool
 follows x y = ltb x.ordinal y.ordinal && leb x.entry.span.start y.entry.span.start
 
+-- a spare place is zero: every number
+abbrev pub spare_entry : Numbered → Bool
+spare_entry x = is_blank (entry_numbers x)
+
 -- The count is within its limit, the held entries are sound and follow one another, and spare places are zero.
-unfoldable pub sound_area : Rule → Journal → Gate → Area → Rows → Bool
-sound_area rule own other area rows =
+unfoldable pub sound_area : Rule → Journal → Gate → Area → Bool
+sound_area rule own other area =
     leb area.count most
-    && (all_of (sound_entry rule own other) (held area rows)
-    && (chain follows (held area rows)
-    && all_of is_blank (drop area.count rows)))
+    && (list_all (sound_entry rule own other) (held area)
+    && (chain follows (held area)
+    && list_all spare_entry (drop area.count area.places)))

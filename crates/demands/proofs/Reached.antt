@@ -5,7 +5,7 @@ use mathlib.Core.List.{List, [], ◌∷◌, ◌++◌}
 use mathlib.Core.Path.{◌≡◌, refl}
 use lib.Dec.{ltb, eqb}
 use borrow.Author.Tests.{eqb-false, not-true}
-use Rattle.lists.specs.Judge.{all_of}
+use Rattle.std.specs.List.{list_all}
 use Rattle.lists.specs.Check.{Check, ◌gives◌}
 use Rattle.pairing.specs.declared.Pair.{Pair}
 use Rattle.pairing.specs.declared.Rule.{Rule}
@@ -50,7 +50,7 @@ abbrev not_8 : ℕ → Bool
 not_8 n = not (eqb n 8)
 
 -- on a sound state the row of 8 does not apply, and no other row gives 8
-judged_number : (s : State) → Sound s → (stream : ℕ) (rows : List Check) → all_of (λ (row : Check). not_8 row.number) rows ≡ true → not_8 (number_of (first_of (judge_rows s stream ++ rows))) ≡ true
+judged_number : (s : State) → Sound s → (stream : ℕ) (rows : List Check) → list_all (λ (row : Check). not_8 row.number) rows ≡ true → not_8 (number_of (first_of (judge_rows s stream ++ rows))) ≡ true
 judged_number s h stream rows others = rw h.judged (number_rows not_8 ((ltb 1 stream gives 1) ∷ rows) refl others)
 
 next_number : (ready : Pair → Bool) (closed : Bool) (ps : List Pair) → took_number (next_of ready closed ps) ≡ 0

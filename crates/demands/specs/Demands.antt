@@ -2,7 +2,7 @@
 use Rattle.std.specs.Prelude.{ℕ, ◌*◌, true, cond, ◌||◌, ◌≡◌, leb, length}
 use mathlib.Core.List.{List, [], ◌∷◌, ◌++◌, Perm, IsPrefix}
 use Rattle.interval.specs.Interval.{holds_at}
-use Rattle.lists.specs.Judge.{all_of}
+use Rattle.std.specs.List.{list_all}
 use Rattle.std.specs.Prelude.{filter}
 use Rattle.pairing.specs.declared.Entry.{Entry}
 use Rattle.pairing.specs.declared.Pair.{Pair}
@@ -104,7 +104,7 @@ accepted_of B w = w.of_b
 -- all that a journal has accepted since starts at the time or after it
 abbrev pub StartsFrom : ℕ → Side → World → World → Type 0
 StartsFrom time side w later =
-    (since : List Entry) × ((accepted_of side w ++ since ≡ accepted_of side later) × (all_of (λ (e : Entry). leb time e.span.start) since ≡ true))
+    (since : List Entry) × ((accepted_of side w ++ since ≡ accepted_of side later) × (list_all (λ (e : Entry). leb time e.span.start) since ≡ true))
 
 -- A mark promises that no later entry of that journal starts before it: one that is accepted after some calls, whatever more calls come after it.
 abbrev pub MarkPromises : Rule → List Call → List Call → Type 0

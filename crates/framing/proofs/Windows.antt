@@ -8,7 +8,7 @@ use lib.Dec.{leb}
 use lib.ListN.{length, take, drop, length-take, length-drop}
 use lib.Seq.{take_all, take-take, take-length, length-take-le}
 use borrow.Author.Tests.{leb-true, leb-false}
-use Rattle.lists.specs.Judge.{all_of}
+use Rattle.std.specs.List.{list_all}
 use Rattle.lists.proofs.Bools.{and_left, and_right}
 use Rattle.feed.specs.declared.Reading.{Reading}
 use Rattle.feed.specs.declared.Reading.TheVariants.{Found, Refused, End}
@@ -123,8 +123,8 @@ module _ (left : ℕ) (w : Window) (input : List ℕ) where
 
 module _ {P : Type 0} (program : Program P) where
   -- each uses a record, and a record has a byte
-  module _ (ws : List Window) (again : all_of wide ws ≡ true → (q : P) (left : ℕ) (input : List ℕ) → length (take left input) < length ws → (run_from program ws q left input).finished ≡ true) where
-    reading_ends : all_of wide ws ≡ true → (p : P) (left : ℕ) (input : List ℕ) → length (take left input) < suc (length ws) → (r : Reading) → reading (take left input) 0 ≡ r
+  module _ (ws : List Window) (again : list_all wide ws ≡ true → (q : P) (left : ℕ) (input : List ℕ) → length (take left input) < length ws → (run_from program ws q left input).finished ≡ true) where
+    reading_ends : list_all wide ws ≡ true → (p : P) (left : ℕ) (input : List ℕ) → length (take left input) < suc (length ws) → (r : Reading) → reading (take left input) 0 ≡ r
         → (run_at program (run_from program ws) p left input r).finished ≡ true
     reading_ends e p left input few (Found found next) at = go (program.on_record p found)
       where
@@ -137,11 +137,11 @@ module _ {P : Type 0} (program : Program P) where
     reading_ends e p left input few (Refused number place) at = refl
     reading_ends e p left input few End at = refl
 
-  run_ends : (ws : List Window) → all_of wide ws ≡ true → (p : P) (left : ℕ) (input : List ℕ) → length (take left input) < length ws → (run_from program ws p left input).finished ≡ true
+  run_ends : (ws : List Window) → list_all wide ws ≡ true → (p : P) (left : ℕ) (input : List ℕ) → length (take left input) < length ws → (run_from program ws p left input).finished ≡ true
   run_ends [] e p left input few = absurd (let none : length (take left input) < 0 = few in omega arith)
   run_ends (w ∷ ws) e p left input few =
-      let tells_all = wide_tells left w input (and_left (wide w) (all_of wide ws) e) in
-      rw (tells_all, shows_first left w input tells_all) (reading_ends ws (run_ends ws) (and_right (wide w) (all_of wide ws) e) p left input few (reading (take left input) 0) refl)
+      let tells_all = wide_tells left w input (and_left (wide w) (list_all wide ws) e) in
+      rw (tells_all, shows_first left w input tells_all) (reading_ends ws (run_ends ws) (and_right (wide w) (list_all wide ws) e) p left input few (reading (take left input) 0) refl)
 
   -- For every program, feed and limit, and any windows.
   pub pieces : (begun : P) (limit : ℕ) (input : List ℕ) (ws : List Window) → Pieces program begun limit input ws

@@ -1,7 +1,7 @@
 -- Whatever windows show a feed, what is put out is what must be printed.
 use Rattle.std.specs.Prelude.{ℕ, ◌-◌, ◌<◌, Bool, true, false, cond, ◌&&◌, ◌≡◌, leb, length, take, drop}
 use mathlib.Core.List.{List, [], ◌∷◌, ◌++◌, IsPrefix}
-use Rattle.lists.specs.Judge.{all_of}
+use Rattle.std.specs.List.{list_all}
 use Rattle.feed.specs.Kind.{longest_record}
 use Rattle.feed.specs.declared.Reading.{Reading}
 use Rattle.feed.specs.Reading.{reading}
@@ -53,4 +53,4 @@ pub record Pieces {P : Type 0} (program : Program P) (begun : P) (limit : ℕ) (
   -- and all of it, when the last line is out
   pub all : (run_from program ws begun limit input).finished ≡ true → (run_from program ws begun limit input).out ≡ printed_by program begun limit input
   -- as many wide windows as the input has bytes, and one, bring the last line out
-  pub ends : all_of wide ws ≡ true → length input < length ws → (run_from program ws begun limit input).finished ≡ true
+  pub ends : list_all wide ws ≡ true → length input < length ws → (run_from program ws begun limit input).finished ≡ true

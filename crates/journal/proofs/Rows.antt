@@ -4,7 +4,7 @@ use native.Mathlib.Omega.{arith}
 use mathlib.Core.Bool.{Bool, true, false, cond}
 use mathlib.Core.List.{List, [], ◌∷◌, ◌++◌}
 use mathlib.Core.Path.{◌≡◌, refl, sym, ◌∙◌}
-use Rattle.lists.specs.Judge.{all_of}
+use Rattle.std.specs.List.{list_all}
 use Rattle.lists.specs.Check.{Check}
 use Rattle.lists.proofs.All.{All}
 use Rattle.lists.proofs.Bools.{and_left, and_right}
@@ -53,7 +53,7 @@ accepted_both rows more e = go (first_of rows) refl (sym (first_of_append rows m
     go (Refused number) f g = record { first = f ∙ g; then = absurd (let z : ◌≡◌ {A = ℕ} 0 1 = cc in omega arith) }
 
 -- a test that passes 0 and the number of every row passes the answer's number
-pub number_rows : (p : ℕ → Bool) (rows : List Check) → p 0 ≡ true → all_of (λ (row : Check). p row.number) rows ≡ true → p (number_of (first_of rows)) ≡ true
+pub number_rows : (p : ℕ → Bool) (rows : List Check) → p 0 ≡ true → list_all (λ (row : Check). p row.number) rows ≡ true → p (number_of (first_of rows)) ≡ true
 number_rows p [] none e = none
 number_rows p (row ∷ rows) none e = go row.when (number_rows p rows none (and_right (p row.number) _ e))
   where

@@ -10,7 +10,8 @@ use lib.Dec.{leb}
 use lib.ListN.{length, replicate, take, drop, get_or, length-take}
 use lib.Seq.{slice, slice-cons, take-suc, take_all, drop-append-le}
 use borrow.Author.Tests.{leb-true, leb-false}
-use Rattle.lists.specs.Judge.{all_of, chain_from, chain}
+use Rattle.std.specs.List.{list_all}
+use Rattle.lists.specs.Judge.{chain_from, chain}
 use Rattle.lists.proofs.All.{All, Each, all_map}
 use Rattle.lists.proofs.Bools.{and_left, and_right}
 
@@ -21,42 +22,42 @@ module _ {A : Type 0} where
       let h : from ≤ length (take i l) = simp length-take (omega arith) in
       rw (add-one, take-suc l i d q) (drop-append-le from (take i l) (get_or l i d ∷ []) h)
 
-  all_of_append : (p : A → Bool) (xs ys : List A) → all_of p (xs ++ ys) ≡ all_of p xs && all_of p ys
+  all_of_append : (p : A → Bool) (xs ys : List A) → list_all p (xs ++ ys) ≡ list_all p xs && list_all p ys
   all_of_append p [] ys = refl
-  all_of_append p (x ∷ xs) ys = ap (λ (b : Bool). p x && b) (all_of_append p xs ys) ∙ sym (and_assoc (p x) (all_of p xs) (all_of p ys))
+  all_of_append p (x ∷ xs) ys = ap (λ (b : Bool). p x && b) (all_of_append p xs ys) ∙ sym (and_assoc (p x) (list_all p xs) (list_all p ys))
 
-  pub all_of_more : (p : A → Bool) (l : List A) (from i : ℕ) (d : A) → from ≤ i → i < length l → all_of p (slice from i l) ≡ true → p (get_or l i d) ≡ true → all_of p (slice from (i + 1) l) ≡ true
+  pub all_of_more : (p : A → Bool) (l : List A) (from i : ℕ) (d : A) → from ≤ i → i < length l → list_all p (slice from i l) ≡ true → p (get_or l i d) ≡ true → list_all p (slice from (i + 1) l) ≡ true
   all_of_more p l from i d h k e f = rw (slice_more l from i d h k, all_of_append p (slice from i l) (get_or l i d ∷ []), e, f)
 
-  fails : (p : A → Bool) (xs : List A) (j : ℕ) (d : A) → j < length xs → p (get_or xs j d) ≡ false → all_of p xs ≡ false
+  fails : (p : A → Bool) (xs : List A) (j : ℕ) (d : A) → j < length xs → p (get_or xs j d) ≡ false → list_all p xs ≡ false
   fails p [] j d h e = absurd (not-suc-le-zero h)
   fails p (x ∷ xs) zero d h e = rw e
   fails p (x ∷ xs) (suc j) d h e = rw (fails p xs j d (le_of_suc-le-suc h) e, and-false (p x))
 
-  pub all_of_fails : (p : A → Bool) (l : List A) (from i to : ℕ) (d : A) → from ≤ i → i < to → to ≤ length l → p (get_or l i d) ≡ false → all_of p (slice from to l) ≡ false
+  pub all_of_fails : (p : A → Bool) (l : List A) (from i to : ℕ) (d : A) → from ≤ i → i < to → to ≤ length l → p (get_or l i d) ≡ false → list_all p (slice from to l) ≡ false
   all_of_fails p l from i to d h k m e = go (i - from) from (omega arith) (omega arith)
     where
-      go : (n at : ℕ) → at + n ≡ i → at < to → all_of p (slice at to l) ≡ false
+      go : (n at : ℕ) → at + n ≡ i → at < to → list_all p (slice at to l) ≡ false
       go zero at f g = let same : i ≡ at = omega arith in rw (slice-cons at to l d g m, ← same, e)
       go (suc n) at f g = rw (slice-cons at to l d g m, go n (suc at) (omega arith) (omega arith), and-false (p (get_or l at d)))
 
   -- of all from a place on
-  pub all_of_rest : (p : A → Bool) (l : List A) (from i : ℕ) → length l ≤ i → all_of p (slice from i l) ≡ true → all_of p (drop from l) ≡ true
-  all_of_rest p l from i h e = ap (λ (t : List A). all_of p (drop from t)) (sym (take_all i l h)) ∙ e
+  pub all_of_rest : (p : A → Bool) (l : List A) (from i : ℕ) → length l ≤ i → list_all p (slice from i l) ≡ true → list_all p (drop from l) ≡ true
+  all_of_rest p l from i h e = ap (λ (t : List A). list_all p (drop from t)) (sym (take_all i l h)) ∙ e
 
-  pub all_of_rest_fails : (p : A → Bool) (l : List A) (from i : ℕ) (d : A) → from ≤ i → i < length l → p (get_or l i d) ≡ false → all_of p (drop from l) ≡ false
+  pub all_of_rest_fails : (p : A → Bool) (l : List A) (from i : ℕ) (d : A) → from ≤ i → i < length l → p (get_or l i d) ≡ false → list_all p (drop from l) ≡ false
   all_of_rest_fails p l from i d h k e =
-      ap (λ (t : List A). all_of p (drop from t)) (sym (take_all (length l) l (omega arith))) ∙ all_of_fails p l from i (length l) d h k (omega arith) e
+      ap (λ (t : List A). list_all p (drop from t)) (sym (take_all (length l) l (omega arith))) ∙ all_of_fails p l from i (length l) d h k (omega arith) e
 
-  pub all_of_all : (p : A → Bool) (xs : List A) → all_of p xs ≡ true → All (λ (x : A). p x ≡ true) xs
+  pub all_of_all : (p : A → Bool) (xs : List A) → list_all p xs ≡ true → All (λ (x : A). p x ≡ true) xs
   all_of_all p [] e = tt
-  all_of_all p (x ∷ xs) e = (and_left (p x) (all_of p xs) e, all_of_all p xs (and_right (p x) (all_of p xs) e))
+  all_of_all p (x ∷ xs) e = (and_left (p x) (list_all p xs) e, all_of_all p xs (and_right (p x) (list_all p xs) e))
 
-  pub all_all_of : (p : A → Bool) (xs : List A) → All (λ (x : A). p x ≡ true) xs → all_of p xs ≡ true
+  pub all_all_of : (p : A → Bool) (xs : List A) → All (λ (x : A). p x ≡ true) xs → list_all p xs ≡ true
   all_all_of p [] h = refl
   all_all_of p (x ∷ xs) h = rw (h.0, all_all_of p xs h.1)
 
-  pub all_of_replicate : (p : A → Bool) (n : ℕ) (z : A) → p z ≡ true → all_of p (replicate n z) ≡ true
+  pub all_of_replicate : (p : A → Bool) (n : ℕ) (z : A) → p z ≡ true → list_all p (replicate n z) ≡ true
   all_of_replicate p zero z e = refl
   all_of_replicate p (suc n) z e = rw (e, all_of_replicate p n z e)
 
@@ -123,7 +124,7 @@ module _ {A : Type 0} where
   each_chain r (x ∷ xs) h = each_chain_from r x xs h.0 h.1
 
 module _ {A B : Type 0} (f : A → B) where
-  pub all_of_map : (p : B → Bool) (xs : List A) → all_of p (map f xs) ≡ all_of (λ (x : A). p (f x)) xs
+  pub all_of_map : (p : B → Bool) (xs : List A) → list_all p (map f xs) ≡ list_all (λ (x : A). p (f x)) xs
   all_of_map p [] = refl
   all_of_map p (x ∷ xs) = ap (λ (b : Bool). p (f x) && b) (all_of_map p xs)
 

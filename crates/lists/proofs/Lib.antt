@@ -13,4 +13,3 @@ pub mod InPlace
 pub mod Merge
 pub mod First
 pub mod Put
-pub mod Unique

@@ -1,20 +1,15 @@
--- Laws of a list kept in places: `pad_to`, `content`, `stored` and `Stores`.
+-- Laws of a list kept in places: `pad_to` and `Stores`.
 use Prim.Native.Nat.{ℕ, zero, suc, ◌+◌, ◌-◌, ◌≤◌, ◌<◌}
 use native.Mathlib.Omega.{arith}
 use mathlib.Core.Bool.{Bool, true}
-use mathlib.Core.List.{List, [], ◌∷◌, ◌++◌, append_assoc, map, map-append}
+use mathlib.Core.List.{List, [], ◌∷◌, ◌++◌, append_assoc}
 use mathlib.Core.Path.{◌≡◌, refl, sym, ap, ◌∙◌}
-use lib.Dec.{eqb}
-use lib.ListN.{length, replicate, take, drop, set, get_or, length-append, length-replicate, length-map, length-take, length-drop, take-append-drop, get_or-map}
-use lib.Seq.{set-append_seam, take_at, drop_at, get_or-take}
-use borrow.Author.Tests.{eqb-true}
-use Rattle.lists.specs.Judge.{all_of}
-use Rattle.std.specs.Prelude.{filter}
-use Rattle.lists.specs.Store.{pad_to, Rows, is_blank, content, stored, Stores}
-use Rattle.lists.proofs.All.{All, all_map, all_map₂, all_take, all_drop, all_replicate}
-use Rattle.lists.proofs.Array.{Shaped}
+use lib.ListN.{length, replicate, take, drop, set, get_or, length-append, length-replicate, length-take, length-drop, take-append-drop}
+use lib.Seq.{set-append_seam, take_at, drop_at, length-take-le}
+use Rattle.std.specs.List.{list_all}
+use Rattle.lists.specs.Store.{pad_to, Stores}
+use Rattle.lists.proofs.All.{All, all_map, all_replicate}
 use Rattle.lists.proofs.Judge.{all_of_all, all_of_replicate}
-use Rattle.lists.proofs.Keep.{keep_map, keep_same_test}
 
 module _ {A : Type 0} (k : ℕ) (z : A) where
   pub pad_to_length : (xs : List A) → length xs ≤ k → length (pad_to k z xs) ≡ k
@@ -48,80 +43,38 @@ module _ {A : Type 0} (k : ℕ) (z : A) where
       let m : k - n ≡ k - length (take n l) = simp length-take (omega arith) in
       sym (take-append-drop n l) ∙ ap (λ (t : List A). take n l ++ t) (e ∙ ap (λ (j : ℕ). replicate j z) m)
 
--- a blank row of a width is that many zeros
-blank_row : (width : ℕ) (row : List ℕ) → length row ≡ width → is_blank row ≡ true → row ≡ replicate width 0
-blank_row width row long e =
-    all_replicate 0 row (all_map (λ (n : ℕ). eqb n 0 ≡ true) (λ (n : ℕ). n ≡ 0) (λ n z. eqb-true n 0 z) row (all_of_all (λ (n : ℕ). eqb n 0) row e)) ∙ ap (λ (m : ℕ). replicate m 0) long
-
-zeros_blank : (width : ℕ) → is_blank (replicate width 0) ≡ true
-zeros_blank width = all_of_replicate (λ (n : ℕ). eqb n 0) width 0 refl
-
-map_read : {A B : Type 0} (read : B → A) (write : A → B) → ((x : A) → read (write x) ≡ x) → (xs : List A) → map read (map write xs) ≡ xs
-map_read read write back [] = refl
-map_read read write back (x ∷ xs) = rw (back x, map_read read write back xs)
-
--- rows that are written of what they hold
-pub map_write : {A B : Type 0} (read : B → A) (write : A → B) (rows : List B) → All (λ (row : B). write (read row) ≡ row) rows → map write (map read rows) ≡ rows
-map_write read write [] h = refl
-map_write read write (row ∷ rows) h = rw (h.0, map_write read write rows h.1)
-
-module _ {A : Type 0} (read : List ℕ → A) (n : ℕ) (places : Rows) where
-  pub content_long : n ≤ length places → length (content read n places) ≡ n
-  content_long h = simp (length-map, length-take) (omega arith)
-
-  -- what stands at a place
-  pub content_at : (i : ℕ) → i < n → get_or (content read n places) i (read []) ≡ read (get_or places i [])
-  content_at i h = get_or-map read (take n places) i [] ∙ ap read (get_or-take n places i [] h)
-
-module _ {A : Type 0} (read : List ℕ → A) (write : A → List ℕ) (k width : ℕ) where
-  module _ (n : ℕ) (places : Rows) (s : Stores read write k width n places) where
-    abbrev held : List A
-    held = content read n places
-
+module _ {A : Type 0} (z : A) (k n : ℕ) (places : List A) where
+  module _ (s : Stores z k n places) where
     pub stores_length : length places ≡ k
     stores_length =
-        let few : length (map write held) ≤ k = simp (length-map, length-take) (omega (arith, s.few)) in
-        ap length s.same ∙ pad_to_length k (replicate width 0) (map write held) few
+        let few : length (take n places) ≤ k = simp length-take (omega (arith, s.few)) in
+        ap length s.same ∙ pad_to_length k z (take n places) few
 
-    pub content_length : length held ≡ n
-    content_length = content_long read n places (omega (arith, s.few, stores_length))
+    pub stored_length : length (take n places) ≡ n
+    stored_length = length-take-le n places (omega (arith, s.few, stores_length))
 
-    rows_length : length (map write held) ≡ n
-    rows_length = length-map held write ∙ content_length
-
-    -- the rows of what is held
-    pub stores_rows : take n places ≡ map write held
-    stores_rows = ap (take n) s.same ∙ pad_to_take k (replicate width 0) (map write held) n rows_length
-
-    pub stores_rest : drop n places ≡ replicate (k - n) (replicate width 0)
-    stores_rest = ap (drop n) s.same ∙ pad_to_drop k (replicate width 0) (map write held) n rows_length
+    pub stores_rest : drop n places ≡ replicate (k - n) z
+    stores_rest = ap (drop n) s.same ∙ pad_to_drop k z (take n places) n stored_length
 
     -- one more element, in the first spare place
-    pub stored_more : (x : A) → n < k → set places n (write x) ≡ stored write k width (held ++ (x ∷ []))
-    stored_more x h =
-        ap (λ (l : Rows). set l n (write x)) s.same
-        ∙ pad_to_set k (replicate width 0) (map write held) n (write x) rows_length h
-        ∙ ap (pad_to k (replicate width 0)) (sym (map-append write held (x ∷ [])))
+    pub stored_more : (x : A) → n < k → set places n x ≡ pad_to k z (take n places ++ (x ∷ []))
+    stored_more x h = ap (λ (l : List A). set l n x) s.same ∙ pad_to_set k z (take n places) n x stored_length h
 
-    -- a test of what rows hold keeps the rows of what passes
-    pub stores_keep : ((x : A) → read (write x) ≡ x) → (p : A → Bool) → filter (λ (row : List ℕ). p (read row)) (take n places) ≡ map write (filter p held)
-    stores_keep back p =
-        ap (filter (λ (row : List ℕ). p (read row))) stores_rows
-        ∙ keep_map (λ (row : List ℕ). p (read row)) write held
-        ∙ ap (map write) (keep_same_test (λ (x : A). p (read (write x))) p (λ x. ap p (back x)) held)
+  -- places with z in each that a test of z finds spare
+  pub stores_judged : (spare : A → Bool) → ((x : A) → spare x ≡ true → x ≡ z) → length places ≡ k → n ≤ k → list_all spare (drop n places) ≡ true → Stores z k n places
+  stores_judged spare is full few e =
+      let rest = all_replicate z (drop n places) (all_map (λ (x : A). spare x ≡ true) (λ (x : A). x ≡ z) is (drop n places) (all_of_all spare (drop n places) e)) in
+      let gap : length (drop n places) ≡ k - n = length-drop n places ∙ ap (λ (m : ℕ). m - n) full in
+      record { few = few; same = pad_to_split k z places n full few (rest ∙ ap (λ (m : ℕ). replicate m z) gap) }
 
-  -- what is stored is read back
-  module _ (back : (x : A) → read (write x) ≡ x) (xs : List A) (n : ℕ) (e : length xs ≡ n) where
-    pub content_stored : content read n (stored write k width xs) ≡ xs
-    content_stored = ap (map read) (pad_to_take k (replicate width 0) (map write xs) n (length-map xs write ∙ e)) ∙ map_read read write back xs
+-- what is stored is read back
+module _ {A : Type 0} (z : A) (k : ℕ) (xs : List A) (n : ℕ) (e : length xs ≡ n) where
+  pub stores_stored : n ≤ k → Stores z k n (pad_to k z xs)
+  stores_stored h = record { few = h; same = ap (pad_to k z) (sym (pad_to_take k z xs n e)) }
 
-    pub stores_stored : n ≤ k → Stores read write k width n (stored write k width xs)
-    stores_stored h = record { few = h; same = ap (stored write k width) (sym content_stored) }
-
-    -- and beyond it stand blanks
-    pub spare_stored : all_of is_blank (drop n (stored write k width xs)) ≡ true
-    spare_stored =
-        ap (all_of is_blank) (pad_to_drop k (replicate width 0) (map write xs) n (length-map xs write ∙ e)) ∙ all_of_replicate is_blank (k - n) (replicate width 0) (zeros_blank width)
+  -- and beyond it stand blanks
+  pub spare_stored : (spare : A → Bool) → spare z ≡ true → list_all spare (drop n (pad_to k z xs)) ≡ true
+  spare_stored spare h = ap (list_all spare) (pad_to_drop k z xs n e) ∙ all_of_replicate spare (k - n) z h
 
 -- ---- rows of a given width
 
@@ -145,17 +98,3 @@ row_listed (suc width) (x ∷ row) e = ap {B = List ℕ} (λ l. x ∷ l) (row_li
   where
     shorter : (m n : ℕ) → suc m ≡ suc n → m ≡ n
     shorter m n e = omega arith
-
--- places of the right shape whose spare rows are blank store what the others hold
-pub stores_judged : {A : Type 0} (read : List ℕ → A) (write : A → List ℕ) (k width : ℕ) → ((row : List ℕ) → length row ≡ width → write (read row) ≡ row)
-    → (n : ℕ) (places : Rows) → Shaped k width places → n ≤ k → all_of is_blank (drop n places) ≡ true → Stores read write k width n places
-stores_judged read write k width whole n places shaped few spare =
-    let wide : List ℕ → Type 0 = λ row. length row ≡ width in
-    let rest = all_replicate (replicate width 0) (drop n places)
-    (all_map₂ wide (λ (row : List ℕ). is_blank row ≡ true) (λ (row : List ℕ). row ≡ replicate width 0) (blank_row width) (drop n places) (all_drop wide n places shaped.wide) (all_of_all is_blank (drop n places) spare)) in
-    let gap : length (drop n places) ≡ k - n = length-drop n places ∙ ap (λ (m : ℕ). m - n) shaped.full in
-    record {
-      few = few;
-      same = pad_to_split k (replicate width 0) places n shaped.full few (rest ∙ ap (λ (m : ℕ). replicate m (replicate width 0)) gap)
-          ∙ ap (pad_to k (replicate width 0)) (sym (map_write read write (take n places) (all_map wide (λ (row : List ℕ). write (read row) ≡ row) whole (take n places) (all_take wide n places shaped.wide))));
-    }

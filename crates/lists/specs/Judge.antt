@@ -1,12 +1,7 @@
--- Tests of a whole list.
+-- Tests of neighbours in a list. `list_all` says that every element passes a test.
 use Rattle.std.specs.Prelude.{Bool, true, ◌&&◌, List, [], ◌∷◌}
 
 module _ {A : Type 0} where
-  -- every element passes the test
-  abbrev pub all_of : (A → Bool) → List A → Bool
-  all_of p [] = true
-  all_of p (x ∷ xs) = p x && all_of p xs
-
   -- x and the first of the list pass the test together, and so does each next couple of neighbours
   abbrev pub chain_from : (A → A → Bool) → A → List A → Bool
   chain_from r x [] = true

@@ -9,7 +9,8 @@ use lib.Dec.{leb}
 use lib.ListN.{length, replicate, take, drop, get_or, length-map, length-drop, drop_of_length-le}
 use lib.Seq.{slice, get_or-take, length-take-le}
 use borrow.Author.Tests.{leb-true}
-use Rattle.lists.specs.Judge.{all_of, chain}
+use Rattle.std.specs.List.{list_all}
+use Rattle.lists.specs.Judge.{chain}
 use Rattle.std.specs.Prelude.{filter}
 use Rattle.lists.specs.Sort.{insert_by, insert_all_by}
 use Rattle.lists.specs.Store.{pad_to, Rows, is_blank}
@@ -72,15 +73,15 @@ new_ascending rule side x others sorted =
 pub sound_rows : (of_a of_b : ℕ) (queue : Queue) (rows : Rows)
     → sound_queue of_a of_b queue rows
     ≡ leb queue.count places
-    && (all_of (λ (row : List ℕ). sound_pair of_a of_b (pair_in row)) (take queue.count rows)
-    && (chain row_before (take queue.count rows) && all_of is_blank (drop queue.count rows)))
+    && (list_all (λ (row : List ℕ). sound_pair of_a of_b (pair_in row)) (take queue.count rows)
+    && (chain row_before (take queue.count rows) && list_all is_blank (drop queue.count rows)))
 unfolding sound_queue
 sound_rows of_a of_b queue rows =
     rw (all_of_map pair_in (sound_pair of_a of_b) (take queue.count rows), chain_map pair_in comes_before (take queue.count rows))
 
 -- what a sound queue has
 pub queue_passes : (of_a of_b : ℕ) (queue : Queue) (rows : Rows) → sound_queue of_a of_b queue rows ≡ true
-    → Passes (leb queue.count places) (all_of (sound_pair of_a of_b) (waiting queue rows)) (chain comes_before (waiting queue rows)) (all_of is_blank (drop queue.count rows))
+    → Passes (leb queue.count places) (list_all (sound_pair of_a of_b) (waiting queue rows)) (chain comes_before (waiting queue rows)) (list_all is_blank (drop queue.count rows))
 unfolding sound_queue
 queue_passes of_a of_b queue rows e = passes _ _ _ _ e
 
@@ -132,7 +133,7 @@ module _ (queue : Queue) (rows : Rows) (h : Holds queue rows) where
   -- ---- what is ready
 
   -- the first k are ready and the next is not, or there is no next
-  pub ready_first : (a b : Gate) (k : ℕ) → chain comes_before (waiting queue rows) ≡ true → k ≤ queue.count → all_of (λ (row : List ℕ). ready a b (pair_in row)) (take k rows) ≡ true
+  pub ready_first : (a b : Gate) (k : ℕ) → chain comes_before (waiting queue rows) ≡ true → k ≤ queue.count → list_all (λ (row : List ℕ). ready a b (pair_in row)) (take k rows) ≡ true
       → (k ≡ queue.count) ⊎ ((k < queue.count) × (ready a b (pair_in (get_or rows k [])) ≡ false))
       → (k ≡ length (filter (ready a b) (waiting queue rows))) × (take k (waiting queue rows) ≡ filter (ready a b) (waiting queue rows))
   ready_first a b k sorted few firsts stop =

@@ -1,11 +1,12 @@
--- The queue: up to 256 pairs formed and not yet handed out, in the plain list's order, in places that the caller lends.
-use Rattle.std.specs.Prelude.{ℕ, Bool, ◌&&◌, List, ltb, leb, length, drop}
+-- The queue: up to 256 pairs formed and not yet handed out, in the plain list's order. The count and the places are the queue itself.
+use Rattle.std.specs.Prelude.{ℕ, Bool, ◌&&◌, List, ltb, leb, length, take, drop}
+use Rattle.std.specs.List.{list_all}
 use Rattle.interval.specs.Interval.{proper_of}
-use Rattle.lists.specs.Judge.{all_of, chain}
-use Rattle.lists.specs.Store.{Rows, is_blank, content, stored, Stores}
+use Rattle.lists.specs.Judge.{chain}
+use Rattle.lists.specs.Store.{pad_to, is_blank, Stores}
 use Rattle.pairing.specs.declared.Pair.{Pair}
 use Rattle.pairing.specs.Pair.{comes_before}
-use Rattle.pairing.specs.Numbers.{pair_numbers, pair_in}
+use Rattle.pairing.specs.Numbers.{pair_numbers}
 use Rattle.journal.specs.declared.Gate.{Gate}
 use Rattle.journal.specs.Journal.{due}
 use Rattle.queue.specs.declared.Queue.{Queue}
@@ -14,23 +15,20 @@ use Rattle.queue.specs.declared.Queue.{Queue}
 abbrev pub places : ℕ
 places = 256
 
--- a place holds the numbers of a pair
-abbrev pub width : ℕ
-width = 8
-
 -- the waiting pairs, in the order of their places
-abbrev pub waiting : Queue → Rows → List Pair
-waiting queue rows = content pair_in queue.count rows
+abbrev pub waiting : Queue → List Pair
+waiting queue = take queue.count queue.places
 
--- the queue, and the one value of its places, in which some pairs wait. Places beyond a count hold zeros.
+-- zeros, where no pair waits
+abbrev pub no_pair : Pair
+no_pair = record { meeting = record { start = 0; end = 0 }; a = record { ordinal = 0; key = 0; value = 0 }; b = record { ordinal = 0; key = 0; value = 0 } }
+
+-- the one queue in which some pairs wait. Places beyond the count hold zeros.
 abbrev pub queue_of : List Pair → Queue
-queue_of ps = record { count = length ps }
+queue_of ps = record { count = length ps; places = pad_to places no_pair ps }
 
-abbrev pub rows_of : List Pair → Rows
-rows_of ps = stored pair_numbers places width ps
-
-abbrev pub Holds : Queue → Rows → Type 0
-Holds queue rows = Stores pair_in pair_numbers places width queue.count rows
+abbrev pub Holds : Queue → Type 0
+Holds queue = Stores no_pair places queue.count queue.places
 
 -- A waiting pair is ready when its start is below the clock of every open journal; with both closed, all are ready.
 unfoldable pub ready : Gate → Gate → Pair → Bool
@@ -40,10 +38,14 @@ ready = due (λ (p : Pair). p.meeting.start)
 abbrev pub sound_pair : ℕ → ℕ → Pair → Bool
 sound_pair of_a of_b p = proper_of p.meeting && (ltb p.a.ordinal of_a && ltb p.b.ordinal of_b)
 
+-- a spare place is zero: every number
+abbrev pub spare_pair : Pair → Bool
+spare_pair p = is_blank (pair_numbers p)
+
 -- The count is within its limit, the waiting pairs are sound and in strictly ascending order, and spare places are zero.
-unfoldable pub sound_queue : ℕ → ℕ → Queue → Rows → Bool
-sound_queue of_a of_b queue rows =
+unfoldable pub sound_queue : ℕ → ℕ → Queue → Bool
+sound_queue of_a of_b queue =
     leb queue.count places
-    && (all_of (sound_pair of_a of_b) (waiting queue rows)
-    && (chain comes_before (waiting queue rows)
-    && all_of is_blank (drop queue.count rows)))
+    && (list_all (sound_pair of_a of_b) (waiting queue)
+    && (chain comes_before (waiting queue)
+    && list_all spare_pair (drop queue.count queue.places)))

@@ -4,7 +4,7 @@ use native.Mathlib.Omega.{arith}
 use mathlib.Core.List.{List, []}
 use mathlib.Core.Path.{◌≡◌, refl, sym, ap, ◌∙◌}
 use lib.ListN.{take}
-use Rattle.lists.specs.Judge.{all_of}
+use Rattle.std.specs.List.{list_all}
 use Rattle.lists.proofs.Judge.{all_of_more, all_of_fails}
 use Rattle.pairing.specs.Numbers.{pair_in}
 use Rattle.queue.specs.Queue.{sound_pair}
@@ -26,4 +26,4 @@ loop-i-preserved c =
 pub returns : goal.returns
 returns c =
     let e : c.loop-i.i ≡ c.args.n = omega arith in
-    sym (ap (λ (m : ℕ). all_of (λ (row : List ℕ). sound_pair c.args.of_a c.args.of_b (pair_in row)) (take m c.args.rows.now)) (sym e) ∙ c.loop-i.invariant.1)
+    sym (ap (λ (m : ℕ). list_all (λ (row : List ℕ). sound_pair c.args.of_a c.args.of_b (pair_in row)) (take m c.args.rows.now)) (sym e) ∙ c.loop-i.invariant.1)

@@ -3,13 +3,13 @@ use native.Mathlib.Omega.{arith}
 use mathlib.Core.List.{[]}
 use mathlib.Core.Path.{sym, ap, ◌∙◌}
 use lib.Seq.{slice_empty}
-use Rattle.lists.specs.Judge.{all_of}
+use Rattle.std.specs.List.{list_all}
 use Rattle.lists.specs.Store.{is_blank}
 use Rattle.lists.proofs.Judge.{all_of_more, all_of_rest, all_of_rest_fails}
 use Rattle.queue.proofs.spare_blank.Goals as goal
 
 pub loop-i-init : goal.loop-i-init
-loop-i-init c = (omega arith, omega arith, ap (all_of is_blank) (slice_empty c.args.n c.args.rows.now))
+loop-i-init c = (omega arith, omega arith, ap (list_all is_blank) (slice_empty c.args.n c.args.rows.now))
 
 pub returns-then-not-is_blank : goal.returns-then-not-is_blank
 returns-then-not-is_blank c =
