@@ -4,6 +4,8 @@
 ghost use Rattle.std.specs.Prelude.{◌≡◌};
 ghost use Rattle.interval.specs.Interval.{holds_at, proper_of, length_of, meeting_of};
 
+use std::fmt;
+
 // From start up to end, the end left out.
 #[derive(Clone, Copy, Debug, Default, PartialEq, Eq)]
 pub struct Interval {
@@ -42,5 +44,12 @@ impl Interval {
             start: self.start.max(other.start),
             end: self.end.min(other.end),
         }
+    }
+}
+
+// As [start,end), with the end left out.
+impl fmt::Display for Interval {
+    fn fmt<W: fmt::Write>(&self, f: &mut fmt::Formatter<W>) -> fmt::Result {
+        write!(f, "[{},{})", self.start, self.end)
     }
 }

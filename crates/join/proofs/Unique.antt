@@ -7,7 +7,7 @@ use Rattle.unique.specs.Unique.{OneResult, OneOutcome}
 use Rattle.unique.proofs.Equation.{one_by_equation, outcome_by_equation, agree}
 use Rattle.lists.specs.Store.{Rows}
 use Rattle.pairing.specs.Numbers.{pair_in}
-use Rattle.journal.specs.declared.Answer.{Answer}
+use Rattle.journal.specs.Answer.{Answer}
 use Rattle.queue.specs.declared.Queue.{Queue}
 use Rattle.queue.specs.Queue as queue
 use Rattle.halves.proofs.Unique.{spare_queue}

@@ -9,7 +9,6 @@ use lib.ListN.{length, take, get_or, length-map}
 use lib.Seq.{take_all}
 use Rattle.interval.specs.Interval.{proper_of}
 use Rattle.std.specs.Prelude.{filter}
-use Rattle.lists.specs.Store.{Rows}
 use Rattle.lists.proofs.All.{all_any}
 use Rattle.lists.proofs.Bools.{bool_ext}
 use Rattle.lists.proofs.Keep.{keep_none, keep_keep, kept_more, kept_same, keep_bound, keep_map}
@@ -19,11 +18,9 @@ use Rattle.pairing.specs.declared.Rule.{Rule}
 use Rattle.pairing.specs.Pair.{pairs}
 use Rattle.pairing.specs.Rule.{allows}
 use Rattle.pairing.proofs.Pairs.{pairs_comm, pairs_proper, pairs_allows}
-use Rattle.journal.specs.declared.Answer.{Answer}
-use Rattle.journal.specs.declared.Answer.TheVariants.{Accepted, Refused}
 use Rattle.journal.specs.declared.Gate.TheVariants.{Open}
 use Rattle.journal.specs.declared.Journal.{Journal}
-use Rattle.journal.specs.Answer.{unless_refused}
+use Rattle.journal.specs.Answer.{Answer, Accepted, Refused, unless_refused}
 use Rattle.journal.specs.Journal.{moved, marked}
 use Rattle.area.specs.declared.Area.{Area}
 use Rattle.area.specs.Area.{places, held, partners}
@@ -54,25 +51,6 @@ counted_none rule given run barred =
 pub counted_comm : (rule : Rule) (given : Entry) (run : List Entry) → counted rule given run ≡ answered given (length (filter (λ (e : Entry). pairs rule e given) run))
 counted_comm rule given run = ap (λ (test : Entry → Bool). answered given (length (filter test run))) (λ i e. pairs_comm rule given e i)
 
--- ---- the count as it goes
-
-module _ (rule : Rule) (given : Entry) (run : List Entry) where
-  -- what is found among the first i
-  abbrev pub found : ℕ → ℕ
-  found i = length (filter (pairs rule given) (take i run))
-
-  pub found_more : (i : ℕ) (d : Entry) → i < length run → Holds (pairs rule given (get_or run i d)) → found i + 1 ≡ found (i + 1)
-  found_more i d h t = kept_more (pairs rule given) run i d h (is_true _ t)
-
-  pub found_same : (i : ℕ) (d : Entry) → i < length run → Holds (not (pairs rule given (get_or run i d))) → found i ≡ found (i + 1)
-  found_same i d h t = kept_same (pairs rule given) run i d h (is_false _ t)
-
-  pub found_few : (i : ℕ) → found i ≤ i
-  found_few i = keep_bound (pairs rule given) run i
-
-  pub found_all : (i : ℕ) → length run ≤ i → found i ≡ length (filter (pairs rule given) run)
-  found_all i h = ap (λ (l : List Entry). length (filter (pairs rule given) l)) (take_all i run h)
-
 -- ---- the count over what an area holds
 
 -- the count is the one that the area itself makes
@@ -82,10 +60,10 @@ counted_held rule given xs =
     ap (answered given) (ap length (keep_map (pairs rule given) entry_of xs) ∙ length-map (partners rule given xs) entry_of)
 
 -- also where the area's count is beyond its places: it then holds what is in all of them
-pub counted_within : (rule : Rule) (given : Entry) (area : Area) (rows : Rows) (n : ℕ) → length rows ≡ places → n ≡ min area.count places
-    → answered given (length (partners rule given (held (record { count = n }) rows))) ≡ counted rule given (entries_of (held area rows))
-counted_within rule given area rows n full e =
-    ap (λ (xs : List Numbered). answered given (length (partners rule given xs))) (held_within area rows n full e) ∙ sym (counted_held rule given (held area rows))
+pub counted_within : (rule : Rule) (given : Entry) (area : Area) (n : ℕ) → length area.places ≡ places → n ≡ min area.count places
+    → answered given (length (partners rule given (held (record { count = n; places = area.places })))) ≡ counted rule given (entries_of (held area))
+counted_within rule given area n full e =
+    ap (λ (xs : List Numbered). answered given (length (partners rule given xs))) (held_within area n full e) ∙ sym (counted_held rule given (held area))
 
 -- ---- the mark
 

@@ -7,6 +7,7 @@ ghost use Rattle.pairing.specs.Rule.{whole_turn, distance, allows, fits};
 ghost use Rattle.pairing.specs.Side.{pair_from};
 
 use interval::Interval;
+use std::fmt;
 
 // What a journal says from the start of the span up to its end.
 #[derive(Clone, Copy, Debug, Default, PartialEq, Eq)]
@@ -162,5 +163,12 @@ impl Side {
             Side::A => Pair::of(x, other),
             Side::B => Pair::of(other, x),
         }
+    }
+}
+
+// As its meeting and the ordinals of A and B.
+impl fmt::Display for Pair {
+    fn fmt<W: fmt::Write>(&self, f: &mut fmt::Formatter<W>) -> fmt::Result {
+        write!(f, "{} {}-{}", self.meeting, self.a.ordinal, self.b.ordinal)
     }
 }
