@@ -1,5 +1,5 @@
 -- What a sound area holds, as facts; and that it stays sound when its journal's gate moves, when it is cleared by the other's, and when one more entry is held.
-use Prim.Native.Nat.{ℕ, ◌≤◌, ◌<◌}
+use Prim.Native.Nat.{◌≤◌, ◌<◌}
 use native.Mathlib.Omega.{arith}
 use mathlib.Core.Bool.{Bool, true, false, cond}
 use mathlib.Core.List.{List, [], ◌∷◌, ◌++◌, append-nil}

@@ -1,8 +1,9 @@
 // The area of a journal: its held entries with their ordinals.
 #![tactic(auto)]
 
-ghost use Rattle.std.specs.Prelude.{◌≡◌, true, [], ◌∷◌, ◌++◌, ◌≤◌, ◌<◌, length, take, drop, filter, get_or};
+ghost use Rattle.std.specs.Prelude.{◌≡◌, true, [], ◌∷◌, ◌++◌, ◌≤◌, ◌<◌, length, take, drop, get_or};
 ghost use Rattle.std.specs.List.{list_all};
+ghost use Rattle.std.proofs.lemmas.List.Filters.{FiltersInPlace};
 ghost use Rattle.lists.specs.Judge.{chain};
 ghost use Rattle.lists.specs.Keep.{last_place};
 ghost use Rattle.pairing.specs.Pair.{pairs};
@@ -63,7 +64,15 @@ impl Area {
         &self.places[..self.count]
     }
 
+    fn spare(&self) -> &[Numbered]
+        requires { self.now.count ≤ places }
+        ensures { result.now ≡ drop self.now.count self.now.places }
+    {
+        &self.places[self.count..]
+    }
+
     // One more entry, behind the others.
+    #[tactic(auto, using(crate::proofs::Laws::held_more))]
     pub fn hold(&mut self, x: Numbered)
         requires { (Holds self.old) × (self.old.count < places) }
         ensures { self.new ≡ area_of (held self.old ++ (x ∷ [])) }
@@ -75,7 +84,7 @@ impl Area {
     // The wanted entries moved to the front, in order; answers how many there are.
     fn squeeze(&mut self, gate: Gate) -> usize
         requires { self.old.count ≤ places }
-        ensures { (result ≤ self.old.count) × (self.new.count ≡ self.old.count) × (take result self.new.places ≡ filter (λ x. wanted gate x.entry) (held self.old)) × (drop self.old.count self.new.places ≡ drop self.old.count self.old.places) }
+        ensures { (self.new.count ≡ self.old.count) × FiltersInPlace (λ x. wanted gate x.entry) self.old.places self.new.places result self.old.count }
     {
         let mut kept = 0;
         for i in 0..self.count {
@@ -118,18 +127,18 @@ impl Area {
             .count()
     }
 
-    // Where the last partner of an entry of the other journal stands, among those held below a place. One of them is a partner.
+    // Where the last partner of an entry of the other journal stands, among those held below a place, if one of them is a partner.
     pub fn last_partner(&self, below: usize, rule: Rule, e: Entry) -> usize
-        requires { (below ≤ self.now.count) × (self.now.count ≤ places) × (0 < length (partners rule e (take below (held self.now)))) }
+        requires { (below ≤ self.now.count) × (self.now.count ≤ places) }
         ensures { result ≡ last_place (λ x. pairs rule e x.entry) (take below (held self.now)) }
     {
-        let mut i = below;
-        loop {
-            i -= 1;
-            if rule.pairs(e, self.places[i].entry) {
+        for i in (0..below).rev() {
+            let y = self.entry_at(i);
+            if rule.pairs(e, y.entry) {
                 return i;
             }
         }
+        0
     }
 
     // How many held entries would a gate of the other journal leave?
@@ -163,10 +172,11 @@ impl Area {
         requires { self.now.count ≤ places }
         ensures { result ≡ list_all spare_entry (drop self.now.count self.now.places) }
     {
-        self.places[self.count..].iter().all(|x| is_spare(*x))
+        self.spare().iter().all(|x| is_spare(*x))
     }
 
     // Is the state of the area sound, beside the rule, its own journal and the other's gate? Then its places store just what it holds.
+    #[tactic(auto, using(crate::proofs::Laws::spare_holds), unfolding(crate::specs::Area::sound_area))]
     pub fn sound(&self, rule: Rule, own: Journal, other: Gate) -> bool
         ensures value { result ≡ sound_area rule own other self.now }
         ensures holds { result ≡ true → Holds self.now }

@@ -1,61 +1,26 @@
 -- Laws of places that are changed where they stand, one store a turn.
 use Prim.Native.Nat.{ℕ, suc, ◌+◌, ◌-◌, ◌≤◌, ◌<◌}
-use native.Mathlib.Nat.{add-zero}
-use native.Mathlib.Numerals.{add-one}
 use native.Mathlib.Omega.{arith}
-use mathlib.Core.Bool.{Bool, true, false}
+use mathlib.Core.Bool.{Bool, false}
 use mathlib.Core.List.{List, [], ◌∷◌, ◌++◌, append_assoc}
 use mathlib.Core.Path.{◌≡◌, sym, ap, ◌∙◌}
-use lib.ListN.{length, replicate, take, drop, set, get_or, length-append, length-replicate, length-take, length-drop, take-append-drop, replicate-append-replicate}
-use lib.Seq.{slice, length-slice, drop-cons, get_or-drop, get_or-append-add, set_at, take_at, drop_at, take-set-le, take-suc-set, drop-set-lt, drop-drop, drop-append-add}
-use Rattle.std.specs.Prelude.{filter}
+use lib.ListN.{length, replicate, take, drop, set, get_or, length-append, length-replicate, length-drop, length-set, replicate-append-replicate}
+use lib.Seq.{slice, length-slice, drop-cons, get_or-drop, get_or-append-add, set_at, take_at, drop_at, take-set-le, drop-set-lt, drop-drop, drop-append-add}
+use Rattle.std.proofs.lemmas.List.Filters.{FiltersInPlace, FiltersInPlace-more_no}
 use Rattle.lists.specs.Store.{pad_to}
 use Rattle.lists.proofs.Judge.{slice_more}
-use Rattle.lists.proofs.Keep.{keep_more, keep_same}
 
--- ---- zeros are written from a place on
-
-module _ {A : Type 0} (l₀ : List A) (from i : ℕ) (z : A) (behind : from ≤ i) where
-  pub blank_start : from ≡ i → l₀ ≡ take from l₀ ++ (replicate (i - from) z ++ drop i l₀)
-  blank_start h =
-      let f : i - from ≡ 0 = omega arith in
-      sym (take-append-drop from l₀) ∙ ap (λ (m : ℕ). take from l₀ ++ drop m l₀) h ∙ ap (λ (m : ℕ). take from l₀ ++ (replicate m z ++ drop i l₀)) (sym f)
-
-  pub blank_step : i < length l₀ → (l : List A) → l ≡ take from l₀ ++ (replicate (i - from) z ++ drop i l₀) → set l i z ≡ take from l₀ ++ (replicate ((i + 1) - from) z ++ drop (i + 1) l₀)
-  blank_step inside l e =
-      let f : (i + 1) - from ≡ (i - from) + 1 = omega arith in
-      let front = take from l₀ ++ replicate (i - from) z in
-      let long : length front ≡ i = simp (length-append, length-take, length-replicate) (omega arith) in
-      ap (λ (l : List A). set l i z) (e ∙ sym (append_assoc (take from l₀) (replicate (i - from) z) (drop i l₀)) ∙ ap (λ (t : List A). front ++ t) (drop-cons l₀ i z inside))
-      ∙ set_at front (get_or l₀ i z) (drop (suc i) l₀) z i long
-      ∙ append_assoc (take from l₀) (replicate (i - from) z) (z ∷ drop (suc i) l₀)
-      ∙ ap (λ (t : List A). take from l₀ ++ t) (sym (append_assoc (replicate (i - from) z) (z ∷ []) (drop (suc i) l₀)) ∙ ap (λ (t : List A). t ++ drop (suc i) l₀) (replicate-append-replicate (i - from) 1 z))
-      ∙ ap (λ (m : ℕ). take from l₀ ++ (replicate m z ++ drop (suc i) l₀)) (sym f)
-      ∙ ap (λ (m : ℕ). take from l₀ ++ (replicate ((i + 1) - from) z ++ drop m l₀)) (sym (add-one i))
-
--- ---- what passes a test is moved to the front
-
-module _ {A : Type 0} (p : A → Bool) (l₀ l : List A) (i at : ℕ) (d : A) (inside₀ : i < length l₀) (inside : i < length l) (behind : at ≤ i)
-    (front : take at l ≡ filter p (take i l₀)) (back : drop i l ≡ drop i l₀) where
-  same : get_or l i d ≡ get_or l₀ i d
-  same =
-      ap (λ (m : ℕ). get_or l m d) (sym (add-zero i)) ∙ sym (get_or-drop i l 0 d) ∙ ap (λ (t : List A). get_or t 0 d) back ∙ get_or-drop i l₀ 0 d ∙ ap (λ (m : ℕ). get_or l₀ m d) (add-zero i)
-
-  -- each is moved, and counted if it passes
-  pub squeeze_kept : p (get_or l i d) ≡ true → take (at + 1) (set l at (get_or l i d)) ≡ filter p (take (i + 1) l₀)
-  squeeze_kept e =
-      ap (λ (m : ℕ). take m (set l at (get_or l i d))) (add-one at)
-      ∙ take-suc-set l at (get_or l i d) (omega arith)
-      ∙ ap (λ (t : List A). t ++ (get_or l i d ∷ [])) front
-      ∙ ap (λ (x : A). filter p (take i l₀) ++ (x ∷ [])) same
-      ∙ sym (keep_more p l₀ i d inside₀ (ap p (sym same) ∙ e))
-
-  pub squeeze_left : p (get_or l i d) ≡ false → take at (set l at (get_or l i d)) ≡ filter p (take (i + 1) l₀)
-  squeeze_left e = take-set-le at l at (get_or l i d) (omega arith) ∙ front ∙ sym (keep_same p l₀ i d inside₀ (ap p (sym same) ∙ e))
-
-  -- those that are still to be looked at stay
-  pub squeeze_next : drop (i + 1) (set l at (get_or l i d)) ≡ drop (i + 1) l₀
-  squeeze_next = drop-set-lt (i + 1) l at (get_or l i d) (omega arith) ∙ sym (drop-drop 1 i l) ∙ ap (drop 1) back ∙ drop-drop 1 i l₀
+-- what does not pass is moved too, in front of those that are still to be looked at, and not counted
+pub FiltersInPlace-more_left : {A : Type 0} {p : A → Bool} {xs ys : List A} {k i : ℕ} → {x : A} → FiltersInPlace p xs ys k i → i < length ys → p x ≡ false → x ≡ get_or ys i x → FiltersInPlace p xs (set ys k x) k (i + 1)
+FiltersInPlace-more_left {A} {p} {xs} {ys} {k} {i} {x} f inside fails at =
+    let more = FiltersInPlace-more_no f inside fails at in
+    record {
+      front = take-set-le k ys k x (omega arith) ∙ more.front;
+      rest = drop-set-lt (i + 1) ys k x (omega (arith, f.behind)) ∙ more.rest;
+      behind = more.behind;
+      within = more.within;
+      long = length-set ys k x ∙ more.long;
+    }
 
 -- some elements, with z in the places up to n and beyond, are those elements padded
 pub padded_part : {A : Type 0} (k n gap : ℕ) (z : A) (xs rest : List A) → rest ≡ replicate (k - n) z → length xs + gap ≡ n → n ≤ k → xs ++ (replicate gap z ++ rest) ≡ pad_to k z xs

@@ -10,7 +10,11 @@ use lib.Dec.{leb}
 use lib.ListN.{length, replicate, take, drop, get_or, length-take}
 use lib.Seq.{slice, slice-cons, take-suc, take_all, drop-append-le}
 use borrow.Author.Tests.{leb-true, leb-false}
-use Rattle.std.specs.List.{list_all}
+use Rattle.std.specs.List.{list_all, AllAdjacentBelow, IsAllAdjacentAnswer}
+use Rattle.std.specs.Fn.{Called, ComputesOnPairs}
+use Rattle.std.proofs.lemmas.List.Sorted.{answers_always}
+use denote.Param.Members.{Mut}
+use denote.Ref.{Bor}
 use Rattle.lists.specs.Judge.{chain_from, chain}
 use Rattle.lists.proofs.All.{All, Each, all_map}
 use Rattle.lists.proofs.Bools.{and_left, and_right}
@@ -101,6 +105,28 @@ module _ {A : Type 0} where
       go : (b : Bool) → leb n 1 ≡ b → chain r (take n l) ≡ true
       go true f = chain_short r l n (leb-true n 1 f)
       go false f = let same : n ≡ i = omega (arith, leb-false n 1 f) in rw same e
+
+  chain_answer : (r : A → A → Bool) (xs : List A) (b : Bool) → IsAllAdjacentAnswer (λ x y c. c ≡ r x y) xs b → b ≡ chain r xs
+  chain_answer r xs true h = sym (all xs h)
+    where
+      from : (x : A) (xs : List A) → AllAdjacentBelow (λ x y. true ≡ r x y) (x ∷ xs) (length (x ∷ xs)) → chain_from r x xs ≡ true
+      from x [] h = refl
+      from x (y ∷ ys) h = rw (sym (h 0 x (omega arith)), from y ys (λ k d l. let up : suc k + 1 ≡ suc (k + 1) = omega arith in h (suc k) d (omega arith) ∙ ap (λ (j : ℕ). r (get_or (y ∷ ys) k d) (get_or (x ∷ y ∷ ys) j d)) up))
+
+      all : (xs : List A) → AllAdjacentBelow (λ x y. true ≡ r x y) xs (length xs) → chain r xs ≡ true
+      all [] h = refl
+      all (x ∷ xs) h = from x xs h
+  chain_answer r [] false h = absurd (not-suc-le-zero h.1)
+  chain_answer r (x ∷ xs) false h =
+      let down : h.0 + 1 - 1 ≡ h.0 = omega arith in
+      sym (chain_fails r (x ∷ xs) (h.0 + 1) x (omega arith) h.1 (ap (λ (k : ℕ). r (get_or (x ∷ xs) k x) (get_or (x ∷ xs) (h.0 + 1) x)) down ∙ sym (h.2 x)))
+
+  -- what `is_sorted_by` answers, by its clause `cases` and what each call of its closure answers
+  pub chain_sorted : (r : A → A → Bool) {F : Type 0} {g : Mut F (Bor A × (Bor A × Unit {0})) Bool} {f : F} (xs : List A) (b : Bool)
+      → ((e : A → A → Bool) → ComputesOnPairs g e f → IsAllAdjacentAnswer (λ x y c. c ≡ e x y) xs b)
+      → ((f : F) (a : Bor A × (Bor A × Unit {0})) (c : Bool) (f' : F) → Called g f a c f' → c ≡ r a.0.now a.1.0.now)
+      → b ≡ chain r xs
+  chain_sorted r {F} {g} {f} xs b clause answers = chain_answer r xs b (clause r (answers_always g (λ a c. c ≡ r a.0.now a.1.0.now) f answers))
 
   -- where the test is transitive, neighbours in order are all in order
   module _ (r : A → A → Bool) (trans : (x y z : A) → r x y ≡ true → r y z ≡ true → r x z ≡ true) where

@@ -8,7 +8,7 @@ use lib.ListN.{length, replicate, take, drop, set, get_or, length-append, length
 use lib.Seq.{set-append_seam, take_at, drop_at, length-take-le}
 use Rattle.std.specs.List.{list_all}
 use Rattle.lists.specs.Store.{pad_to, Stores}
-use Rattle.lists.proofs.All.{All, all_map, all_replicate}
+use Rattle.lists.proofs.All.{all_map, all_replicate}
 use Rattle.lists.proofs.Judge.{all_of_all, all_of_replicate}
 
 module _ {A : Type 0} (k : ℕ) (z : A) where
