@@ -207,9 +207,10 @@ impl Join {
     pub fn take(&mut self) -> Result<Taken, Refusal>
         ensures { outcome (took_of result) self.new ≡ take_call self.old }
     {
-        if !self.sound() {
-            return Err(Refusal::Unsound);
+        if self.sound() {
+            Ok(self.take_on())
+        } else {
+            Err(Refusal::Unsound)
         }
-        Ok(self.take_on())
     }
 }

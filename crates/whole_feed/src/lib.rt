@@ -37,9 +37,9 @@ fn put_steps(rule: Rule, feed: &[u8], out: &mut [u8]) -> usize
                 at += used;
                 size += filled;
             }
-            Went::Ended { filled } => {
-                put_fitting(out, size, &lines[..filled]);
-                return size + filled;
+            Went::Ended { filled: last } => {
+                put_fitting(out, size, &lines[..last]);
+                return size + last;
             }
             // The whole feed is shown.
             Went::More => unreachable!(),
