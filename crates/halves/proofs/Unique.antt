@@ -1,5 +1,5 @@
 -- The contract of each public function allows one answer, and one content of the halves and of the queue that it is lent.
-use mathlib.Core.Path.{◌≡◌, ap}
+use mathlib.Core.Path.{◌≡◌}
 use Rattle.std.specs.Prelude.{Result}
 use Rattle.unique.specs.Unique.{OneResult, OneOutcome}
 use Rattle.unique.proofs.Equation.{one_by_reading, agree, agree_both}
@@ -40,7 +40,7 @@ one_moved x y after before after' before' m n m' n' same p q =
     λ i. (same i, own i, others i)
 
 one_mark : OneOutcome {Seen = Result (Unit {0}) Refusal × Half × Half} (λ κs r left. (r, left.0.now, left.1.0.now)) mark.Post
-one_mark κs args x y left other p q = one_moved x y _ _ _ _ _ _ _ _ (same_answer x y (agree p.0 q.0)) (p.1, p.2) (q.1, q.2)
+one_mark κs args x y left other p q = one_moved x y _ _ _ _ _ _ _ _ (same_answer x y (agree p.0 q.0)) p.1 q.1
 
 one_close : OneOutcome {Seen = Result (Unit {0}) Refusal × Half × Half} (λ κs r left. (r, left.0.now, left.1.0.now)) close.Post
-one_close κs args x y left other p q = one_moved x y _ _ _ _ _ _ _ _ (same_answer x y (agree p.0 q.0)) (p.1, p.2) (q.1, q.2)
+one_close κs args x y left other p q = one_moved x y _ _ _ _ _ _ _ _ (same_answer x y (agree p.0 q.0)) p.1 q.1
