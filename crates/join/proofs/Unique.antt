@@ -2,7 +2,7 @@
 use native.Mathlib.Omega.{arith}
 use mathlib.Core.List.{[]}
 use mathlib.Core.Path.{◌≡◌, ap}
-use Rattle.std.specs.Prelude.{Result, Ok}
+use Rattle.std.specs.Prelude.{Result}
 use Rattle.unique.specs.Unique.{OneResult, OneOutcome}
 use Rattle.unique.proofs.Equation.{one_by_equation, outcome_by_equation, agree}
 use Rattle.refusals.specs.declared.Refusal.{Refusal}
@@ -12,7 +12,7 @@ use Rattle.queue.specs.Queue as queue
 use Rattle.queue.proofs.Sound.{holds_stored}
 use Rattle.join.specs.declared.Taken.{Taken}
 use Rattle.join.specs.State.{State}
-use Rattle.join.specs.Calls.{Outcome, outcome, took_of, with_queue}
+use Rattle.join.specs.Calls.{Outcome, outcome, with_queue}
 use Rattle.join.proofs.Laws.{same_took, same_taken}
 use Rattle.join.proofs.side_of.Reads as side-of
 use Rattle.join.proofs.Join.fresh.Reads as fresh

@@ -53,6 +53,7 @@ impl Join {
     // How many entries a journal may accept.
     pub const ENTRIES: u32 = Journal::ENTRIES;
 
+    #[tactic(auto, unfolding(crate::specs::State::fresh_state, crate::specs::State::state_of))]
     pub fn fresh(rule: Rule) -> Join
         ensures { result ≡ fresh_state rule }
     {
@@ -154,11 +155,11 @@ impl Join {
         ensures value { result ≡ length (filter (the_queue.ready self.now.a.journal.gate self.now.b.journal.gate) (the_queue.waiting self.now.queue)) }
         ensures first { take result (the_queue.waiting self.now.queue) ≡ filter (the_queue.ready self.now.a.journal.gate self.now.b.journal.gate) (the_queue.waiting self.now.queue) }
     {
-        self.queue
-            .ready(self.a.journal.gate, self.b.journal.gate)
+        self.queue.ready(self.a.journal.gate, self.b.journal.gate)
     }
 
     // The first k waiting pairs dropped at once: k takes, where they are ready.
+    #[tactic(auto, unfolding(crate::specs::Calls::without))]
     pub fn drop_on(&mut self, k: usize)
         requires { (k ≤ self.old.queue.count) × (the_queue.Holds self.old.queue) }
         ensures { self.new ≡ without k self.old }

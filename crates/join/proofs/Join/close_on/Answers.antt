@@ -1,45 +1,19 @@
 -- `close_on` meets its contract: a close of A empties B's area, one of B empties A's.
-use mathlib.Core.List.{[]}
-use mathlib.Core.Path.{sym, ap, ◌∙◌}
-use Rattle.lists.specs.Store.{Rows}
+use Rattle.std.proofs.Common.{sym, ap, ◌∙◌}
 use Rattle.pairing.specs.declared.Side.{Side}
 use Rattle.pairing.specs.declared.Side.TheVariants.{A, B}
-use Rattle.journal.specs.declared.Gate.TheVariants.{Closed}
-use Rattle.journal.specs.Answer.{unless_refused}
-use Rattle.halves.specs.View.{View, Leaves, seen}
-use Rattle.halves.specs.Calls.{after_move, close_rows}
-use Rattle.join.specs.State.{state_with}
-use Rattle.join.specs.Calls.{close_on}
-use Rattle.join.proofs.Laws.{seen_moves, at_places, called_on}
-use Rattle.join.proofs.View.{mine_in, others_in}
+use Rattle.join.specs.Calls.{with_queue, close_on}
+use Rattle.join.proofs.Laws.{close_called}
 use Rattle.join.proofs.Join.close_on.Goals as goal
 
-pub close-requires : goal.close-requires
-close-requires c =
-    seen_moves A (state_with c.args.self c.args.a.now c.args.b.now []) c.requires.0 c.requires.1 c.requires.2 c.seen_from.result c.seen_from.ensures
+pub returns-in-A-clause-answer : goal.returns-in-A-clause-answer
+returns-in-A-clause-answer c =
+    λ queue q.
+    let t = with_queue queue c.args.self.now in
+    close_called A t _ c.requires.0 q _ _ c.close.ensures.answer c.close.ensures.own c.close.ensures.other ∙ ap (λ (x : Side). close_on t x) (sym c.in-A.is)
 
-pub close-requires-in-B : goal.close-requires-in-B
-close-requires-in-B c =
-    seen_moves B (state_with c.args.self c.args.a.now c.args.b.now []) c.requires.0 c.requires.1 c.requires.2 c.seen_from-in-B.result c.seen_from-in-B.ensures
-
-pub returns-in-A : goal.returns-in-A
-returns-in-A c =
-    λ rows q.
-    let s = state_with c.args.self c.args.a.now c.args.b.now rows in
-    let H = c.seen_from.result in
-    let r = c.close.result in
-    let left = c.close.new.others in
-    called_on A s c.requires.0 c.requires.1 q H c.seen_from.ensures (λ (v : View). close_rows v.own) (after_move Closed) r c.of.result (mine_in A s) left rows c.of.ensures.0 c.of.ensures.1 c.close.ensures.answer_value
-    (at_places A s c.requires.0 c.requires.1 q H c.seen_from.ensures (λ (mine waits : Rows). Leaves (unless_refused r.answer (after_move Closed (seen H mine (others_in A s) waits)) (seen H mine (others_in A s) waits)) r.halves mine left waits) c.close.ensures.leaves)
-    ∙ ap (λ (x : Side). close_on s x) (sym c.in-A.is)
-
-pub returns-in-B : goal.returns-in-B
-returns-in-B c =
-    λ rows q.
-    let s = state_with c.args.self c.args.a.now c.args.b.now rows in
-    let H = c.seen_from-in-B.result in
-    let r = c.close-in-B.result in
-    let left = c.close-in-B.new.others in
-    called_on B s c.requires.0 c.requires.1 q H c.seen_from-in-B.ensures (λ (v : View). close_rows v.own) (after_move Closed) r c.of-in-B.result (mine_in B s) left rows c.of-in-B.ensures.0 c.of-in-B.ensures.1 c.close-in-B.ensures.answer_value
-    (at_places B s c.requires.0 c.requires.1 q H c.seen_from-in-B.ensures (λ (mine waits : Rows). Leaves (unless_refused r.answer (after_move Closed (seen H mine (others_in B s) waits)) (seen H mine (others_in B s) waits)) r.halves mine left waits) c.close-in-B.ensures.leaves)
-    ∙ ap (λ (x : Side). close_on s x) (sym c.in-B.is)
+pub returns-in-B-clause-answer : goal.returns-in-B-clause-answer
+returns-in-B-clause-answer c =
+    λ queue q.
+    let t = with_queue queue c.args.self.now in
+    close_called B t _ c.requires.1 q _ _ c.close-in-B.ensures.answer c.close-in-B.ensures.own c.close-in-B.ensures.other ∙ ap (λ (x : Side). close_on t x) (sym c.in-B.is)
