@@ -7,9 +7,9 @@ use Rattle.lists.specs.Store.{pad_to}
 use Rattle.pairing.specs.Pair.{pairs, partner_of, pair_of, comes_before}
 use Rattle.pairing.specs.Plain.{couple_that, couples_that}
 use Rattle.pairing.specs.Rule.{difference, distance, allows, fits}
-use Rattle.pairing.specs.Numbers.{pair_numbers, pair_in}
+use Rattle.pairing.specs.Numbers.{pair_numbers}
 use Rattle.journal.specs.Journal.{own_rows}
-use Rattle.area.specs.Area.{held_in, row_of, sound_area}
+use Rattle.area.specs.Area.{entry_numbers, sound_area}
 use Rattle.queue.specs.Queue.{sound_queue, ready}
 use Rattle.halves.specs.Calls.{key_rows, room_for, entry_rows, after_entry, after_move}
 use Rattle.join.specs.State.{view, state_of, sound, fresh_state}
@@ -17,5 +17,5 @@ use Rattle.join.specs.Calls.{entry_call, mark_call, close_call, take_call, witho
 use Rattle.demands.specs.Bench.{table, Benches}
 
 pub benches : Benches
-unfolding flat_map proper_of meeting_of ascending neither pad_to pairs partner_of pair_of comes_before couple_that couples_that difference distance allows fits held_in row_of sound_area pair_in pair_numbers sound_queue ready view state_of sound fresh_state own_rows key_rows room_for entry_rows after_entry entry_call after_move mark_call close_call take_call without table
+unfolding flat_map proper_of meeting_of ascending neither pad_to pairs partner_of pair_of comes_before couple_that couples_that difference distance allows fits entry_numbers sound_area pair_numbers sound_queue ready view state_of sound fresh_state own_rows key_rows room_for entry_rows after_entry entry_call after_move mark_call close_call take_call without table
 benches = refl

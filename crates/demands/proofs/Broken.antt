@@ -22,10 +22,10 @@ use Rattle.pairing.specs.Pair.{pairs, partner_of, pair_of, comes_before}
 use Rattle.pairing.specs.Plain.{couple_that, couples_that, plain, match_at, couples_at}
 use Rattle.pairing.specs.Rule.{allows, fits}
 use Rattle.pairing.specs.Side.{new_pairs}
-use Rattle.pairing.specs.Numbers.{pair_numbers, pair_in}
+use Rattle.pairing.specs.Numbers.{pair_numbers}
 use Rattle.journal.specs.declared.Gate.TheVariants.{Open}
 use Rattle.journal.specs.Journal.{wanted, own_rows}
-use Rattle.area.specs.Area.{held_in, row_of, sound_area, wanted_by}
+use Rattle.area.specs.Area.{entry_numbers, sound_area, wanted_by}
 use Rattle.queue.specs.Queue.{sound_queue}
 use Rattle.halves.specs.View.{View}
 use Rattle.halves.specs.Calls.{arrival, key_rows, room_for, entry_rows, after_entry}
@@ -59,7 +59,7 @@ spanning start end = record { span = record { start = start; end = end }; key = 
 
 -- with the join's own, it is the world of the calls
 pub entering_own : entering after_entry B (spanning 0 9) (entering after_entry A (spanning 0 9) (begin Equal)) ≡ ran Equal (Enter 0 (spanning 0 9) ∷ Enter 1 (spanning 0 9) ∷ [])
-unfolding flat_map proper_of meeting_of ascending neither pad_to pairs partner_of pair_of comes_before couple_that couples_that allows fits held_in row_of sound_area pair_in pair_numbers sound_queue view state_of sound fresh_state own_rows key_rows room_for entry_rows after_entry entry_call
+unfolding flat_map proper_of meeting_of ascending neither pad_to pairs partner_of pair_of comes_before couple_that couples_that allows fits entry_numbers sound_area pair_numbers sound_queue view state_of sound fresh_state own_rows key_rows room_for entry_rows after_entry entry_call
 entering_own = refl
 
 -- ---- what refutes the statement: a pair of these two ordinals is nowhere, and should hold at t
@@ -150,7 +150,7 @@ pub record Broken : Type 0 where
   pub hands_early : FirstStretch Equal after_early (entering after_entry B (keyed 2) after_early) → ⊥
 
 pub broken : Broken
-unfolding flat_map proper_of holds_at meeting_of ascending neither pad_to pairs partner_of pair_of comes_before couple_that couples_that plain match_at couples_at allows fits held_in row_of sound_area pair_in pair_numbers sound_queue view state_of sound fresh_state own_rows key_rows room_for entry_rows after_entry entry_call without
+unfolding flat_map proper_of holds_at meeting_of ascending neither pad_to pairs partner_of pair_of comes_before couple_that couples_that plain match_at couples_at allows fits entry_numbers sound_area pair_numbers sound_queue view state_of sound fresh_state own_rows key_rows room_for entry_rows after_entry entry_call without
 broken = record {
   holds_nothing_lem = λ h. never (lacks after_nothing 0 0 0 refl h);
   pairs_first_lem = λ h. never (lacks after_first 0 1 0 refl h);

@@ -18,8 +18,8 @@ use Rattle.pairing.specs.declared.Side.{Side}
 use Rattle.pairing.specs.declared.Side.TheVariants.{A, B}
 use Rattle.pairing.specs.Plain.{plain}
 use Rattle.pairing.proofs.Plain.{plain_at}
-use Rattle.journal.specs.declared.Answer.{Answer}
-use Rattle.journal.specs.declared.Answer.TheVariants as answer
+use Rattle.journal.specs.Answer.{Answer}
+use Rattle.journal.specs.Answer as answer
 use Rattle.journal.specs.declared.Gate.{Gate}
 use Rattle.journal.specs.declared.Gate.TheVariants.{Open}
 use Rattle.journal.specs.Journal.{is_closed, mark_rows}
@@ -27,7 +27,7 @@ use Rattle.journal.proofs.Facts.{mark_met}
 use Rattle.queue.specs.Queue.{ready}
 use Rattle.halves.specs.Calls.{entry_rows, after_move, close_rows}
 use Rattle.halves.proofs.Facts.{entry_met, close_met}
-use Rattle.join.specs.declared.Took.TheVariants.{Handed, Waiting, Finished, Refused}
+use Rattle.join.specs.Calls.{Handed, Waiting, Finished, Refused}
 use Rattle.join.specs.State.{State, view, sound}
 use Rattle.join.specs.Calls.{side_of, entry_call, mark_call, close_call, take_call, take_on, next_of, waiting_in, ready_in, both_closed}
 use Rattle.join.proofs.Facts.{judged_met}
@@ -46,10 +46,10 @@ run_append w (c ∷ cs) more = run_append (step w c) cs more
 
 -- ---- with both journals closed
 
-closed_side : (side : Side) (s : State) → both_closed s.join ≡ true → is_closed (view side s).own.gate ≡ true
+closed_side : (side : Side) (s : State) → both_closed s ≡ true → is_closed (view side s).own.gate ≡ true
 unfolding view
-closed_side A s h = and_left (is_closed s.join.a.journal.gate) (is_closed s.join.b.journal.gate) h
-closed_side B s h = and_right (is_closed s.join.a.journal.gate) (is_closed s.join.b.journal.gate) h
+closed_side A s h = and_left (is_closed s.a.journal.gate) (is_closed s.b.journal.gate) h
+closed_side B s h = and_right (is_closed s.a.journal.gate) (is_closed s.b.journal.gate) h
 
 -- the row of 2 applies, so no entry, mark or close is accepted
 closed_refuses : (gate : Gate) → is_closed gate ≡ true → (a : Answer) → (a ≡ answer.Accepted → is_closed gate ≡ false) → is_refusal a ≡ true
@@ -75,7 +75,7 @@ only_takes_lem w h (Close stream) =
 only_takes_lem w h Take = refl
 
 -- what Finished says
-finished : (s : State) → (take_call s).answer ≡ Finished → (both_closed s.join ≡ true) × (waiting_in s ≡ [])
+finished : (s : State) → (take_call s).answer ≡ Finished → (both_closed s ≡ true) × (waiting_in s ≡ [])
 unfolding take_call
 finished s h = go (sound s) h
   where
@@ -88,7 +88,7 @@ finished s h = go (sound s) h
     never_handed : (p : Pair) → Handed p ≡ Finished → ⊥
     never_handed p e = let z : ◌≡◌ {A = ℕ} 0 1 = cc in omega arith
 
-    empty : (b : Bool) → both_closed s.join ≡ b → cond b Finished Waiting ≡ Finished → both_closed s.join ≡ true
+    empty : (b : Bool) → both_closed s ≡ b → cond b Finished Waiting ≡ Finished → both_closed s ≡ true
     empty true e k = e
     empty false e k = absurd (never_waiting k)
 
@@ -96,11 +96,11 @@ finished s h = go (sound s) h
     full true p k = never_handed p k
     full false p k = never_waiting k
 
-    looked : (ps : List Pair) → waiting_in s ≡ ps → next_of (ready_in s) (both_closed s.join) ps ≡ Finished → (both_closed s.join ≡ true) × (waiting_in s ≡ [])
-    looked [] e k = (empty (both_closed s.join) refl k, e)
+    looked : (ps : List Pair) → waiting_in s ≡ ps → next_of (ready_in s) (both_closed s) ps ≡ Finished → (both_closed s ≡ true) × (waiting_in s ≡ [])
+    looked [] e k = (empty (both_closed s) refl k, e)
     looked (p ∷ ps) e k = absurd (full (ready_in s p) p k)
 
-    go : (b : Bool) → (cond b (take_on s) (record { answer = Refused 8; state = s })).answer ≡ Finished → (both_closed s.join ≡ true) × (waiting_in s ≡ [])
+    go : (b : Bool) → (cond b (take_on s) (record { answer = Refused 8; state = s })).answer ≡ Finished → (both_closed s ≡ true) × (waiting_in s ≡ [])
     go true k = looked (waiting_in s) refl k
     go false k = absurd (never_refused k)
 
@@ -139,7 +139,7 @@ module _ (rule : Rule) (w : World) (g : GoodWorld rule w) where
   due : All (λ (p : Pair). ready_in w.state p ≡ true) w.out
   unfolding view ready
   due =
-      all_map (Due w.state.join.a.journal.gate w.state.join.b.journal.gate) (λ (p : Pair). ready_in w.state p ≡ true) (λ p d. rw (d.0, d.1)) w.out g.due
+      all_map (Due w.state.a.journal.gate w.state.b.journal.gate) (λ (p : Pair). ready_in w.state p ≡ true) (λ p d. rw (d.0, d.1)) w.out g.due
 
   emptied : waiting_in w.state ≡ [] → w.out ≡ plain_of rule w
   emptied e = sym (append-nil w.out) ∙ ap (λ (ps : List Pair). w.out ++ ps) (sym e) ∙ listed
@@ -163,8 +163,8 @@ module _ (rule : Rule) (w : World) (g : GoodWorld rule w) where
     no_more_lem : NoMore w later
     unfolding view
     no_more_lem = (
-      λ c. entered_closed w.state.join.a.journal.gate w.of_a later.of_a c f.entered,
-      λ c. entered_closed w.state.join.b.journal.gate w.of_b later.of_b c f.entered_other,
+      λ c. entered_closed w.state.a.journal.gate w.of_a later.of_a c f.entered,
+      λ c. entered_closed w.state.b.journal.gate w.of_b later.of_b c f.entered_other,
     )
 
     whole : Whole rule w later

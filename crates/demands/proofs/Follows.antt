@@ -15,8 +15,7 @@ use Rattle.pairing.specs.declared.Pair.{Pair}
 use Rattle.pairing.specs.declared.Side.{Side}
 use Rattle.pairing.specs.declared.Side.TheVariants.{A, B}
 use Rattle.pairing.specs.Pair.{comes_before}
-use Rattle.journal.specs.declared.Answer.{Answer}
-use Rattle.journal.specs.declared.Answer.TheVariants.{Accepted, Refused}
+use Rattle.journal.specs.Answer.{Answer, Accepted, Refused}
 use Rattle.journal.specs.declared.Gate.{Gate}
 use Rattle.journal.specs.declared.Gate.TheVariants.{Open, Closed}
 use Rattle.journal.specs.Answer.{unless_refused}
@@ -25,7 +24,7 @@ use Rattle.queue.specs.Queue.{ready}
 use Rattle.halves.specs.View.{View}
 use Rattle.halves.specs.Calls.{arrival, formed, after_entry, after_move}
 use Rattle.halves.proofs.View.{turned}
-use Rattle.join.specs.declared.Took.TheVariants as took
+use Rattle.join.specs.Calls as took
 use Rattle.join.specs.State.{State, view, state_of, sound}
 use Rattle.join.specs.Calls.{side_of, entry_call, mark_call, close_call, take_call, take_on, waiting_in, ready_in, both_closed, next_of, without, after_take}
 use Rattle.demands.specs.Demands.{accepted_of}
@@ -198,16 +197,16 @@ module _ (s : State) (of_a of_b : List Entry) (out : List Pair) where
       let left = waiting_stored (drop 1 (waiting_in s)) ∙ ap (drop 1) e in
       let whole = append_assoc out (p ∷ []) _ ∙ ap (λ (l : List Pair). out ++ (p ∷ l)) left ∙ ap (λ (l : List Pair). out ++ l) (sym e) in
       record {
-        clock = onward_same s.join.a.journal.gate;
-        clock_other = onward_same s.join.b.journal.gate;
+        clock = onward_same s.a.journal.gate;
+        clock_other = onward_same s.b.journal.gate;
         longer = (p ∷ [], refl);
         still = ap (filter (ready_in s)) whole;
-        entered = entered_none s.join.a.journal.gate of_a;
-        entered_other = entered_none s.join.b.journal.gate of_b;
+        entered = entered_none s.a.journal.gate of_a;
+        entered_other = entered_none s.b.journal.gate of_b;
       }
 
-  taken : (ps : List Pair) → waiting_in s ≡ ps → Next A s of_a of_b out (after_take (next_of (ready_in s) (both_closed s.join) ps) s) of_a of_b (out ++ handed_by (next_of (ready_in s) (both_closed s.join) ps))
-  taken [] e = go (both_closed s.join)
+  taken : (ps : List Pair) → waiting_in s ≡ ps → Next A s of_a of_b out (after_take (next_of (ready_in s) (both_closed s) ps) s) of_a of_b (out ++ handed_by (next_of (ready_in s) (both_closed s) ps))
+  taken [] e = go (both_closed s)
     where
       go : (b : Bool) → Next A s of_a of_b out (after_take (cond b took.Finished took.Waiting) s) of_a of_b (out ++ handed_by (cond b took.Finished took.Waiting))
       go true = same

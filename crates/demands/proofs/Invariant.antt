@@ -26,8 +26,7 @@ use Rattle.pairing.specs.Side.{pair_from, new_pairs}
 use Rattle.pairing.proofs.Arrival.{pairing, new_pairs_map}
 use Rattle.pairing.proofs.Pairs.{pairs_ended_b, pair_meeting, before_start}
 use Rattle.pairing.proofs.Plain.{numbered_snoc, plain_a, plain_b}
-use Rattle.journal.specs.declared.Answer.{Answer}
-use Rattle.journal.specs.declared.Answer.TheVariants.{Accepted, Refused}
+use Rattle.journal.specs.Answer.{Answer, Accepted, Refused}
 use Rattle.journal.specs.declared.Gate.{Gate}
 use Rattle.journal.specs.declared.Gate.TheVariants.{Open, Closed}
 use Rattle.journal.specs.Answer.{unless_refused}
@@ -38,7 +37,7 @@ use Rattle.halves.specs.View.{View}
 use Rattle.halves.specs.Calls.{arrival, formed, entry_rows, after_entry, after_move}
 use Rattle.halves.proofs.Facts.{entry_met}
 use Rattle.halves.proofs.View.{turned}
-use Rattle.join.specs.declared.Took.TheVariants as took
+use Rattle.join.specs.Calls as took
 use Rattle.join.specs.State.{State, view, state_of, sound, fresh_state}
 use Rattle.join.specs.Calls.{side_of, entry_call, mark_call, close_call, take_call, take_on, waiting_in, ready_in, both_closed, next_of, without, after_take}
 use Rattle.demands.specs.History.{Call, Enter, Mark, Close, Take, of_side, handed_by, World, begin, step, run}
@@ -235,12 +234,12 @@ module _ (rule : Rule) (s : State) (of_a of_b : List Entry) (out : List Pair) (g
         holds = g.holds;
         holds_other = g.holds_other;
         listed = append_assoc out (p ∷ []) _ ∙ ap (λ (l : List Pair). out ++ (p ∷ l)) left ∙ ap (λ (l : List Pair). out ++ l) (sym e) ∙ g.listed;
-        due = all_append (Due s.join.a.journal.gate s.join.b.journal.gate) out (p ∷ []) g.due
-            ((and_left (below s.join.a.journal.gate start) (below s.join.b.journal.gate start) r, and_right (below s.join.a.journal.gate start) (below s.join.b.journal.gate start) r), tt);
+        due = all_append (Due s.a.journal.gate s.b.journal.gate) out (p ∷ []) g.due
+            ((and_left (below s.a.journal.gate start) (below s.b.journal.gate start) r, and_right (below s.a.journal.gate start) (below s.b.journal.gate start) r), tt);
       }
 
-  taken : (ps : List Pair) → waiting_in s ≡ ps → Kept rule A (after_take (next_of (ready_in s) (both_closed s.join) ps) s) of_a of_b (out ++ handed_by (next_of (ready_in s) (both_closed s.join) ps))
-  taken [] e = go (both_closed s.join)
+  taken : (ps : List Pair) → waiting_in s ≡ ps → Kept rule A (after_take (next_of (ready_in s) (both_closed s) ps) s) of_a of_b (out ++ handed_by (next_of (ready_in s) (both_closed s) ps))
+  taken [] e = go (both_closed s)
     where
       go : (b : Bool) → Kept rule A (after_take (cond b took.Finished took.Waiting) s) of_a of_b (out ++ handed_by (cond b took.Finished took.Waiting))
       go true = same

@@ -13,7 +13,7 @@ use Rattle.journal.specs.Answer.{number_of, first_of}
 use Rattle.journal.specs.Journal.{mark_rows, own_rows}
 use Rattle.journal.proofs.Rows.{number_rows}
 use Rattle.halves.specs.Calls.{key_rows, room_for, entry_rows, close_rows}
-use Rattle.join.specs.declared.Took.TheVariants.{Handed, Waiting}
+use Rattle.join.specs.Calls.{Handed, Waiting}
 use Rattle.join.specs.State.{State, Sound, view}
 use Rattle.join.specs.Calls.{side_of, judge_rows, entry_call, mark_call, close_call, ready_in, both_closed, waiting_in, next_of, take_on, take_call, took_number}
 use Rattle.join.proofs.Kept.{sound_fresh, entry_kept, mark_kept, close_kept, take_kept}
@@ -69,7 +69,7 @@ sound_number s h (Enter stream e) = judged_number s h stream (entry_rows (side_o
 sound_number s h (Mark stream time) = judged_number s h stream (mark_rows time (view (side_of stream) s).own) refl
 sound_number s h (Close stream) = judged_number s h stream (close_rows (view (side_of stream) s).own) refl
 sound_number s h Take =
-    let none : took_number (take_on s).answer ≡ 0 = next_number (ready_in s) (both_closed s.join) (waiting_in s) in
+    let none : took_number (take_on s).answer ≡ 0 = next_number (ready_in s) (both_closed s) (waiting_in s) in
     rw (take_sound s h, none)
 
 -- no call of a history is answered with 8

@@ -6,11 +6,11 @@ use Rattle.pairing.specs.declared.Entry.{Entry}
 use Rattle.pairing.specs.declared.Pair.{Pair}
 use Rattle.pairing.specs.declared.Side.{Side}
 use Rattle.pairing.specs.declared.Side.TheVariants.{A, B}
-use Rattle.journal.specs.declared.Answer.{Answer}
-use Rattle.journal.specs.declared.Answer.TheVariants as answer
+use Rattle.journal.specs.Answer.{Answer}
+use Rattle.journal.specs.Answer as answer
 use Rattle.journal.specs.Answer.{unless_refused}
-use Rattle.join.specs.declared.Took.{Took}
-use Rattle.join.specs.declared.Took.TheVariants.{Handed, Waiting, Finished, Refused}
+use Rattle.join.specs.Calls.{Took}
+use Rattle.join.specs.Calls.{Handed, Waiting, Finished, Refused}
 use Rattle.join.specs.State.{State, sound}
 use Rattle.join.specs.Calls.{entry_call, mark_call, close_call, take_call, take_on, next_of, after_take, ready_in, both_closed, waiting_in}
 use Rattle.demands.specs.History.{Call, Enter, Mark, Close, Take, after, accepts, hands, handed_by, World, step, run, is_refusal, is_take_refusal, refused, heeded}
@@ -33,7 +33,7 @@ after_refused s Take h = go (sound s) h
     kept (Refused number) k = refl
 
     go : (b : Bool) → is_take_refusal (cond b (take_on s) (record { answer = Refused 8; state = s })).answer ≡ true → (cond b (take_on s) (record { answer = Refused 8; state = s })).state ≡ s
-    go true k = kept (next_of (ready_in s) (both_closed s.join) (waiting_in s)) k
+    go true k = kept (next_of (ready_in s) (both_closed s) (waiting_in s)) k
     go false k = refl
 
 accepts_refused : (side : Side) (s : State) (c : Call) → refused s c ≡ true → accepts side s c ≡ []

@@ -6,10 +6,10 @@ use Rattle.pairing.specs.declared.Entry.{Entry}
 use Rattle.pairing.specs.declared.Pair.{Pair}
 use Rattle.pairing.specs.declared.Rule.{Rule}
 use Rattle.pairing.specs.declared.Rule.TheVariants.{Equal, Near}
-use Rattle.journal.specs.declared.Answer.{Answer}
-use Rattle.journal.specs.declared.Answer.TheVariants as answer
-use Rattle.join.specs.declared.Took.{Took}
-use Rattle.join.specs.declared.Took.TheVariants as took
+use Rattle.journal.specs.Answer.{Answer}
+use Rattle.journal.specs.Answer as answer
+use Rattle.join.specs.Calls.{Took}
+use Rattle.join.specs.Calls as took
 use Rattle.join.specs.State.{State}
 use Rattle.join.specs.Calls.{entry_call, mark_call, close_call, take_call, waiting_in, ready_in}
 use Rattle.demands.specs.History.{Call, Enter, Mark, Close, Take, after, begin, run}
@@ -55,8 +55,8 @@ pub record Seen : Type 0 where
 abbrev pub seen : State → Call → Seen
 seen s c = record {
   last = said s c;
-  in_a = (after s c).join.a.area.count;
-  in_b = (after s c).join.b.area.count;
+  in_a = (after s c).a.area.count;
+  in_b = (after s c).b.area.count;
   waits = map shown (waiting_in (after s c));
   ready = tally (ready_in (after s c)) (waiting_in (after s c));
 }

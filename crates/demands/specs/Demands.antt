@@ -10,10 +10,10 @@ use Rattle.pairing.specs.declared.Rule.{Rule}
 use Rattle.pairing.specs.declared.Side.{Side}
 use Rattle.pairing.specs.declared.Side.TheVariants.{A, B}
 use Rattle.pairing.specs.Plain.{numbered_from, plain, couples_at}
-use Rattle.journal.specs.declared.Answer.TheVariants.{Accepted}
+use Rattle.journal.specs.Answer.{Accepted}
 use Rattle.journal.specs.Journal.{is_closed}
 use Rattle.area.specs.Area as area
-use Rattle.join.specs.declared.Took.TheVariants.{Finished}
+use Rattle.join.specs.Calls.{Finished}
 use Rattle.join.specs.State.{fresh_state}
 use Rattle.join.specs.Calls.{waiting_in, ready_in, ready_of, both_closed, side_of, mark_call, take_call}
 use Rattle.demands.specs.History.{Call, Mark, is_take, World, begin, run, refused, heeded}
@@ -44,12 +44,12 @@ TermsOnce w = EachOnce same_element (stream_of w.of_a) × EachOnce same_element 
 -- The area of a journal holds exactly its wanted accepted entries, in ordinal order.
 abbrev pub HoldsWanted : World → Type 0
 HoldsWanted w =
-    (area.held w.state.join.a.area w.state.in_a ≡ area.wanted_by w.state.join.b.journal.gate (numbered_from 0 w.of_a))
-    × (area.held w.state.join.b.area w.state.in_b ≡ area.wanted_by w.state.join.a.journal.gate (numbered_from 0 w.of_b))
+    (area.held w.state.a.area ≡ area.wanted_by w.state.b.journal.gate (numbered_from 0 w.of_a))
+    × (area.held w.state.b.area ≡ area.wanted_by w.state.a.journal.gate (numbered_from 0 w.of_b))
 
 -- each journal counts what it has accepted
 abbrev pub CountsAccepted : World → Type 0
-CountsAccepted w = (w.state.join.a.journal.accepted ≡ length w.of_a) × (w.state.join.b.journal.accepted ≡ length w.of_b)
+CountsAccepted w = (w.state.a.journal.accepted ≡ length w.of_a) × (w.state.b.journal.accepted ≡ length w.of_b)
 
 -- ---- demand 3: however the journals interleave, what is handed out is a first stretch of the sorted list of an unlimited join, never a pair too early and none too few
 
@@ -68,7 +68,7 @@ module _ (rule : Rule) (w later : World) where
 
   -- both closed and nothing waiting: the whole list
   abbrev pub Whole : Type 0
-  Whole = both_closed w.state.join ≡ true → waiting_in w.state ≡ [] → w.out ≡ plain_of rule later
+  Whole = both_closed w.state ≡ true → waiting_in w.state ≡ [] → w.out ≡ plain_of rule later
 
   -- a take that answers Finished says so
   abbrev pub FinishedWhole : Type 0
@@ -77,11 +77,11 @@ module _ (rule : Rule) (w later : World) where
 -- Closing promises that none comes: a closed journal accepts no more entries
 abbrev pub NoMore : World → World → Type 0
 NoMore w later =
-    (is_closed w.state.join.a.journal.gate ≡ true → later.of_a ≡ w.of_a) × (is_closed w.state.join.b.journal.gate ≡ true → later.of_b ≡ w.of_b)
+    (is_closed w.state.a.journal.gate ≡ true → later.of_a ≡ w.of_a) × (is_closed w.state.b.journal.gate ≡ true → later.of_b ≡ w.of_b)
 
 -- with both closed, every call but a take is refused
 abbrev pub OnlyTakes : World → Type 0
-OnlyTakes w = both_closed w.state.join ≡ true → (c : Call) → is_take c || refused w.state c ≡ true
+OnlyTakes w = both_closed w.state ≡ true → (c : Call) → is_take c || refused w.state c ≡ true
 
 -- two histories with the same accepted entries in each journal and nothing waiting, as when both are closed and emptied, handed out the same list, however they interleaved
 abbrev pub Agree : World → World → Type 0
@@ -94,7 +94,7 @@ ran rule calls = run (begin rule) calls
 
 -- The rule is chosen when the join is made and never changes.
 abbrev pub RuleStays : Rule → World → Type 0
-RuleStays rule w = w.state.join.rule ≡ rule
+RuleStays rule w = w.state.rule ≡ rule
 
 -- the entries accepted of a journal
 abbrev pub accepted_of : Side → World → List Entry

@@ -5,11 +5,11 @@ use Rattle.pairing.specs.declared.Pair.{Pair}
 use Rattle.pairing.specs.declared.Rule.{Rule}
 use Rattle.pairing.specs.declared.Side.{Side}
 use Rattle.pairing.specs.declared.Side.TheVariants.{A, B}
-use Rattle.journal.specs.declared.Answer.{Answer}
-use Rattle.journal.specs.declared.Answer.TheVariants as answer
+use Rattle.journal.specs.Answer.{Answer}
+use Rattle.journal.specs.Answer as answer
 use Rattle.journal.specs.Answer.{unless_refused}
-use Rattle.join.specs.declared.Took.{Took}
-use Rattle.join.specs.declared.Took.TheVariants.{Handed, Waiting, Finished, Refused}
+use Rattle.join.specs.Calls.{Took}
+use Rattle.join.specs.Calls.{Handed, Waiting, Finished, Refused}
 use Rattle.join.specs.State.{State, fresh_state}
 use Rattle.join.specs.Calls.{side_of, entry_call, mark_call, close_call, take_call}
 

@@ -1,18 +1,17 @@
 -- Laws of `head_of`: which check decides.
-use Prim.Native.Nat.{ℕ, ◌+◌, ◌≤◌, ◌<◌}
+use Prim.Native.Nat.{ℕ, ◌+◌, ◌≤◌}
 use native.Mathlib.Omega.{arith}
 use mathlib.Core.Bool.{Bool, true, false, cond, ◌||◌, true≢false}
 use mathlib.Core.List.{List, [], ◌∷◌}
 use mathlib.Core.Path.{◌≡◌, refl, sym}
 use lib.ListN.{length}
 use lib.Dec.{ltb, eqb}
-use borrow.Author.Tests.{eq-eqb, ne_eqb, lt-ltb, le-ltb, ltb-false, eqb-true}
+use borrow.Author.Tests.{eq-eqb, ne_eqb, le-ltb, ltb-false, eqb-true}
 use Rattle.lists.specs.Check.{◌gives◌, first_or}
 use Rattle.feed.specs.declared.Feed.{Feed}
 use Rattle.feed.specs.declared.Feed.TheVariants.{Input, Output}
-use Rattle.feed.specs.declared.Head.TheVariants.{Whole, Refused, End}
-use Rattle.feed.specs.declared.Lengths.TheVariants.{Unknown, Within}
-use Rattle.feed.specs.Kind.{Kind, kinds_of, lengths_among, lengths_of}
+use Rattle.feed.specs.Head.{Whole, Refused, End}
+use Rattle.feed.specs.Kind.{Within, Kind, kinds_of, lengths_among, lengths_of}
 use Rattle.feed.specs.Reading.{unknown, unfit, length_in, kind_in, outside, kind_checks, head_checks, head_unless, head_of}
 
 -- ---- a length within limits
@@ -59,20 +58,12 @@ module _ (feed : Feed) (bs : List ℕ) where
   unfolding head_of
   head_none h = rw (eq-eqb (length bs) 0 h)
 
-  pub head_lone : (length bs ≡ 0 → ⊥) → length bs < 2 → head_of feed bs ≡ Refused 9
-  unfolding head_of head_unless head_checks
-  head_lone n h = rw (ne_eqb (length bs) 0 n, lt-ltb (length bs) 2 h)
-
   module _ (h : 2 ≤ length bs) where
     pub head_outside : outside 2 66 (length_in bs) ≡ true → head_of feed bs ≡ Refused 10
     unfolding head_of head_unless head_checks
     head_outside o = simp (ne_eqb (length bs) 0 (λ e. omega arith), le-ltb (length bs) 2 h, o)
 
     module _ (inside : outside 2 66 (length_in bs) ≡ false) where
-      pub head_short : length bs < 2 + length_in bs → head_of feed bs ≡ Refused 9
-      unfolding head_of head_unless head_checks
-      head_short s = simp (ne_eqb (length bs) 0 (λ e. omega arith), le-ltb (length bs) 2 h, inside, lt-ltb (length bs) (2 + length_in bs) s)
-
       pub head_kind : 2 + length_in bs ≤ length bs → head_of feed bs ≡ head_unless (kind_checks feed (kind_in bs) (length_in bs)) (kind_in bs) (length_in bs)
       unfolding head_of head_unless head_checks
       head_kind s = simp (ne_eqb (length bs) 0 (λ e. omega arith), le-ltb (length bs) 2 h, inside, le-ltb (length bs) (2 + length_in bs) s)
@@ -80,14 +71,6 @@ module _ (feed : Feed) (bs : List ℕ) where
 -- ---- the kind and the length
 
 module _ (feed : Feed) (kind size : ℕ) where
-  pub kind_unknown : lengths_of feed kind ≡ Unknown → head_unless (kind_checks feed kind size) kind size ≡ Refused 11
-  unfolding head_unless kind_checks
-  kind_unknown e = rw e
-
-  pub kind_unfit : (shortest longest : ℕ) → lengths_of feed kind ≡ Within shortest longest → outside shortest longest size ≡ true → head_unless (kind_checks feed kind size) kind size ≡ Refused 10
-  unfolding head_unless kind_checks
-  kind_unfit shortest longest e o = simp (e, o)
-
   pub kind_fit : (shortest longest : ℕ) → lengths_of feed kind ≡ Within shortest longest → outside shortest longest size ≡ false → head_unless (kind_checks feed kind size) kind size ≡ Whole kind size
   unfolding head_unless kind_checks
   kind_fit shortest longest e o = simp (e, o)
@@ -131,6 +114,12 @@ whole_elim feed bs {kind} {size} h =
 pub whole_within : (feed : Feed) (bs : List ℕ) {kind size : ℕ} (shortest longest : ℕ) → head_of feed bs ≡ Whole kind size → lengths_of feed kind ≡ Within shortest longest → (shortest ≤ size) × (size ≤ longest)
 whole_within feed bs {kind} {size} shortest longest h e = inside_elim shortest longest size (rw e at (whole_elim feed bs h).fits)
 
+-- so its bytes are there
+pub whole_enough : (feed : Feed) (bs : List ℕ) {kind size : ℕ} (shortest longest : ℕ) → head_of feed bs ≡ Whole kind size → lengths_of feed kind ≡ Within shortest longest → 2 + shortest ≤ length bs
+whole_enough feed bs shortest longest h e =
+    let within = whole_within feed bs shortest longest h e in
+    omega (arith, (whole_elim feed bs h).enough)
+
 -- the row of the table that a kind and a length stand in
 pub data Row (kind size : ℕ) : List Kind → Type 0 where
   here : {row : Kind} {rows : List Kind} → kind ≡ row.number → (row.shortest ≤ size) × (size ≤ row.longest) → Row kind size (row ∷ rows)
@@ -155,3 +144,21 @@ whole_pair bs {kind} {size} h = go (whole_row Output bs h)
     go : Row kind size (kinds_of Output) → (kind ≡ 257) × (size ≡ 34)
     go (here k (l, m)) = (k, omega arith)
     go (there x3) = elim x3 [ ]
+
+-- ---- a whole record has the bytes of its kind
+
+module _ (bs : List ℕ) {kind size : ℕ} where
+  pub entry_enough : head_of Input bs ≡ Whole kind size → kind ≡ 1 → 22 ≤ length bs
+  entry_enough h e = whole_enough Input bs 20 20 h (rw e lengths_entry)
+
+  pub mark_enough : head_of Input bs ≡ Whole kind size → kind ≡ 2 → 10 ≤ length bs
+  mark_enough h e = whole_enough Input bs 8 8 h (rw e lengths_mark)
+
+  pub close_enough : head_of Input bs ≡ Whole kind size → kind ≡ 3 → 6 ≤ length bs
+  close_enough h e = whole_enough Input bs 4 4 h (rw e lengths_close)
+
+  pub pair_enough : head_of Output bs ≡ Whole kind size → 36 ≤ length bs
+  pair_enough h = whole_enough Output bs 34 34 h (rw (whole_pair bs h).0 lengths_pair)
+
+  pub two_enough : head_of Input bs ≡ Whole kind size → 2 ≤ size
+  two_enough h = (inside_elim 2 66 size (whole_elim Input bs h).limits).0

@@ -10,18 +10,14 @@ use lib.Seq.{take_all, take-take}
 use borrow.Author.Tests.{leb-true, leb-false, le-leb}
 use Rattle.feed.specs.declared.Feed.{Feed}
 use Rattle.feed.specs.declared.Feed.TheVariants.{Input, Output}
-use Rattle.feed.specs.declared.Head.{Head}
-use Rattle.feed.specs.declared.Head.TheVariants.{Whole, Refused as refused_head, End as no_head}
-use Rattle.feed.specs.declared.PairReading.TheVariants.{Found as FoundPair}
-use Rattle.feed.specs.declared.Reading.{Reading}
-use Rattle.feed.specs.declared.Reading.TheVariants.{Found, Refused, End}
+use Rattle.feed.specs.Head.{Head, Whole, Refused as refused_head, End as no_head}
+use Rattle.feed.specs.Reading.{Found, Reading, Refused, End, length_in, kind_in, outside, shows, kind_checks, head_unless, head_of, found_at, reading_of, reading_from, reading, pair_reading_of, pair_reading_from, pair_reading}
 use Rattle.feed.specs.declared.Record.{Record}
 use Rattle.feed.specs.Number.{value}
 use Rattle.feed.specs.Kind.{Kind, entry, mark, close, pair, kinds_of, unpacked, fields_in}
 use Rattle.lists.specs.Check.{◌gives◌, first_or}
 use Rattle.pairing.specs.Numbers.{pair_in}
 use Rattle.feed.specs.Record.{entry_from, mark_from, close_from, record_in, stream_known}
-use Rattle.feed.specs.Reading.{length_in, kind_in, outside, shows, kind_checks, head_unless, head_of, found_at, reading_of, reading_from, reading, pair_reading_of, pair_reading_from, pair_reading}
 use Rattle.feed.proofs.Fields.{total, drop_first, unpacked_take}
 use Rattle.feed.proofs.Heads.{inside_elim, head_outside, head_kind, whole_elim, Row, here, there, whole_row, whole_pair}
 
@@ -114,7 +110,7 @@ module _ (n : ℕ) (bs : List ℕ) (h : Shown (take n bs)) where
       go : (head : Head) → head_of Output (take n bs) ≡ head → pair_reading_of at (take n bs) head ≡ pair_reading_of at bs head
       go (Whole kind size) e =
           let is = whole_pair (take n bs) e in
-          ap (λ (numbers : List ℕ). FoundPair (pair_in numbers) (at + 2 + size)) (fields_in_first n bs pair (omega (arith, is.1, (whole_elim Output (take n bs) e).enough, length-take n bs)))
+          ap (λ (numbers : List ℕ). Found (pair_in numbers) (at + 2 + size)) (fields_in_first n bs pair (omega (arith, is.1, (whole_elim Output (take n bs) e).enough, length-take n bs)))
       go (refused_head number) e = refl
       go no_head e = refl
 

@@ -11,16 +11,13 @@ use Rattle.pairing.specs.declared.Pair.{Pair}
 use Rattle.pairing.specs.Numbers.{pair_in}
 use Rattle.pairing.proofs.Numbers.{numbers_pair}
 use Rattle.feed.specs.declared.Feed.TheVariants.{Input, Output}
-use Rattle.feed.specs.declared.Head.{Head}
-use Rattle.feed.specs.declared.Head.TheVariants.{Whole, Refused as refused_head, End as no_head}
-use Rattle.feed.specs.declared.PairReading.TheVariants.{Found as FoundPair}
-use Rattle.feed.specs.declared.Reading.TheVariants.{Found}
+use Rattle.feed.specs.Head.{Head, Whole, Refused as refused_head, End as no_head}
+use Rattle.feed.specs.Reading.{Found, length_in, kind_in, head_of, reading, pair_reading_of, pair_reading_from, pair_reading}
 use Rattle.feed.specs.declared.Record.{Record}
 use Rattle.feed.specs.declared.Record.TheVariants.{Note}
 use Rattle.feed.specs.Number.{bytes, Bytes}
 use Rattle.feed.specs.Kind.{Kind, entry, mark, close, pair, kinds_of, framed, packed, fields_in}
 use Rattle.feed.specs.Record.{record_in, record_bytes, pair_bytes, stream_known}
-use Rattle.feed.specs.Reading.{length_in, kind_in, head_of, reading, pair_reading_of, pair_reading_from, pair_reading}
 use Rattle.feed.specs.Text.{text_of, text_in, text_at, stretch, text_bytes}
 use Rattle.feed.proofs.Numbers.{bytes_drop, bytes_value_take}
 use Rattle.feed.proofs.Fields.{total, packed_unpacked}
@@ -111,11 +108,11 @@ record PairFound (s : List ℕ) (at : ℕ) (p : Pair) (next : ℕ) : Type 0 wher
   found_in : p ≡ pair_in (fields_in pair (drop at s))
   next_at : next ≡ at + 2 + size
 
-pair_elim : (s : List ℕ) (at : ℕ) {p : Pair} {next : ℕ} → pair_reading s at ≡ FoundPair p next → PairFound s at p next
+pair_elim : (s : List ℕ) (at : ℕ) {p : Pair} {next : ℕ} → pair_reading s at ≡ Found p next → PairFound s at p next
 unfolding pair_reading pair_reading_from
 pair_elim s at {p} {next} h = go (head_of Output (drop at s)) refl h
   where
-    go : (head : Head) → head_of Output (drop at s) ≡ head → pair_reading_of at (drop at s) head ≡ FoundPair p next → PairFound s at p next
+    go : (head : Head) → head_of Output (drop at s) ≡ head → pair_reading_of at (drop at s) head ≡ Found p next → PairFound s at p next
     go (Whole kind size) w e =
         let same : pair_in (fields_in pair (drop at s)) ≡ p = cc in
         let after : at + 2 + size ≡ next = cc in
@@ -123,7 +120,7 @@ pair_elim s at {p} {next} h = go (head_of Output (drop at s)) refl h
     go (refused_head number) w e = absurd (let z : ◌≡◌ {A = ℕ} 0 1 = cc in omega arith)
     go no_head w e = absurd (let z : ◌≡◌ {A = ℕ} 0 1 = cc in omega arith)
 
-pub pair_back : (s : List ℕ) (at : ℕ) {p : Pair} {next : ℕ} → Bytes s → pair_reading s at ≡ FoundPair p next → pair_bytes p ≡ take (next - at) (drop at s)
+pub pair_back : (s : List ℕ) (at : ℕ) {p : Pair} {next : ℕ} → Bytes s → pair_reading s at ≡ Found p next → pair_bytes p ≡ take (next - at) (drop at s)
 unfolding pair_bytes
 pair_back s at {p} {next} b h =
     let f = pair_elim s at h in
@@ -151,7 +148,7 @@ found_length s at {r} {next} h =
     let enough = (whole_elim Input (drop at s) f.head).enough in
     length-take-le (next - at) (drop at s) (omega arith)
 
-pub pair_found_length : (s : List ℕ) (at : ℕ) {p : Pair} {next : ℕ} → pair_reading s at ≡ FoundPair p next → length (take (next - at) (drop at s)) ≡ next - at
+pub pair_found_length : (s : List ℕ) (at : ℕ) {p : Pair} {next : ℕ} → pair_reading s at ≡ Found p next → length (take (next - at) (drop at s)) ≡ next - at
 pair_found_length s at {p} {next} h =
     let f = pair_elim s at h in
     let after = f.next_at in

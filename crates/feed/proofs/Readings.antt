@@ -7,17 +7,13 @@ use mathlib.Core.Path.{◌≡◌, refl, sym}
 use lib.ListN.{length, take, drop, length-drop, drop_of_length-le}
 use lib.Seq.{take_all}
 use Rattle.feed.specs.declared.Feed.TheVariants.{Input, Output}
-use Rattle.feed.specs.declared.Head.TheVariants.{Whole, Refused as refused_head, End as no_head}
-use Rattle.feed.specs.declared.Head.{Head}
+use Rattle.feed.specs.Head.{Whole, Refused as refused_head, End as no_head, Head}
 use Rattle.feed.specs.declared.Record.{Record}
 use Rattle.feed.specs.declared.Record.TheVariants.{Note}
-use Rattle.feed.specs.declared.PairReading.TheVariants.{Found as FoundPair, Refused as refused_pair, End as no_pair}
-use Rattle.feed.specs.declared.Reading.TheVariants.{Found, Refused, End}
-use Rattle.feed.specs.Kind.{pair, kinds_of, fields_in}
+use Rattle.feed.specs.Reading.{Found, Refused, End, head_of, found_at, reading_of, reading_from, reading, pair_reading_from, pair_reading}
+use Rattle.feed.specs.Kind.{kinds_of}
 use Rattle.lists.specs.Check.{◌gives◌, first_or}
-use Rattle.pairing.specs.Numbers.{pair_in}
 use Rattle.feed.specs.Record.{record_in, stream_known}
-use Rattle.feed.specs.Reading.{head_of, found_at, reading_of, reading_from, reading, pair_reading_from, pair_reading}
 use Rattle.feed.proofs.Heads.{inside_elim, Row, here, there, head_none, whole_elim, whole_row}
 
 -- the part of a feed from a place to its end is what is left there
@@ -29,33 +25,9 @@ module _ (s : List ℕ) (at : ℕ) where
   unfolding reading reading_from
   reading_past h = rw (drop_of_length-le s h, head_none Input _ refl)
 
-  pub reading_end : head_of Input (drop at s) ≡ no_head → reading s at ≡ End
-  unfolding reading reading_from
-  reading_end h = rw h
-
-  pub reading_refused : (number : ℕ) → head_of Input (drop at s) ≡ refused_head number → reading s at ≡ Refused number at
-  unfolding reading reading_from
-  reading_refused number h = rw h
-
-  pub reading_whole : (kind size : ℕ) → head_of Input (drop at s) ≡ Whole kind size → reading s at ≡ found_at at (record_in kind size (drop at s)) (at + 2 + size)
-  unfolding reading reading_from
-  reading_whole kind size h = rw h
-
-  pub pair_past : length s ≤ at → pair_reading s at ≡ no_pair
+  pub pair_past : length s ≤ at → pair_reading s at ≡ End
   unfolding pair_reading pair_reading_from
   pair_past h = rw (drop_of_length-le s h, head_none Output _ refl)
-
-  pub pair_end : head_of Output (drop at s) ≡ no_head → pair_reading s at ≡ no_pair
-  unfolding pair_reading pair_reading_from
-  pair_end h = rw h
-
-  pub pair_refused : (number : ℕ) → head_of Output (drop at s) ≡ refused_head number → pair_reading s at ≡ refused_pair number at
-  unfolding pair_reading pair_reading_from
-  pair_refused number h = rw h
-
-  pub pair_whole : (kind size : ℕ) → head_of Output (drop at s) ≡ Whole kind size → pair_reading s at ≡ FoundPair (pair_in (fields_in pair (drop at s))) (at + 2 + size)
-  unfolding pair_reading pair_reading_from
-  pair_whole kind size h = rw h
 
 -- ---- what a record that was found tells
 

@@ -11,16 +11,12 @@ use Rattle.pairing.specs.Numbers.{pair_numbers, pair_in}
 use Rattle.pairing.proofs.Numbers.{pair_numbers_lem}
 use Rattle.feed.specs.declared.Feed.{Feed}
 use Rattle.feed.specs.declared.Feed.TheVariants.{Input, Output}
-use Rattle.feed.specs.declared.Head.TheVariants.{Whole}
-use Rattle.feed.specs.declared.Lengths.TheVariants.{Within}
-use Rattle.feed.specs.declared.PairReading.TheVariants.{Found as FoundPair}
-use Rattle.feed.specs.declared.Reading.{Reading}
-use Rattle.feed.specs.declared.Reading.TheVariants.{Found}
+use Rattle.feed.specs.Head.{Whole}
+use Rattle.feed.specs.Kind.{Within, entry, mark, close, pair, lengths_of, framed, packed, Room}
+use Rattle.feed.specs.Reading.{Found, Reading, length_in, kind_in, outside, kind_checks, head_unless, head_of, found_at, reading_from, reading, pair_reading_of, pair_reading_from, pair_reading}
 use Rattle.feed.specs.declared.Record.{Record}
 use Rattle.feed.specs.declared.Record.TheVariants.{Entry as entry_record, Mark, Close, Note}
-use Rattle.feed.specs.Kind.{entry, mark, close, pair, lengths_of, framed, packed, Room}
 use Rattle.feed.specs.Record.{entry_from, mark_from, close_from, entry_numbers, mark_numbers, close_numbers, record_in, record_bytes, pair_bytes, stream_known, Fitting}
-use Rattle.feed.specs.Reading.{length_in, kind_in, outside, kind_checks, head_unless, head_of, found_at, reading_from, reading, pair_reading_of, pair_reading_from, pair_reading}
 use Rattle.feed.specs.Text.{text_of, text_in, text_at, stretch, carried, ReadsAs}
 use Rattle.feed.proofs.Numbers.{value_bytes}
 use Rattle.feed.proofs.Fields.{unpacked_packed}
@@ -66,15 +62,15 @@ record_reads (Note size) text rest at fit known short =
     let same : 2 + length text - 2 ≡ size = omega arith in
     found_framed 4 text rest (Note size) at (head_framed Input 4 2 66 text rest lengths_note (omega arith) (omega arith) (omega arith) (omega arith)) (ap Note same) known
 
-pub pair_reads : (p : Pair) (rest : List ℕ) (at : ℕ) → Room pair.fields (pair_numbers p) → pair_reading_from at (pair_bytes p ++ rest) ≡ FoundPair p (at + length (pair_bytes p))
+pub pair_reads : (p : Pair) (rest : List ℕ) (at : ℕ) → Room pair.fields (pair_numbers p) → pair_reading_from at (pair_bytes p ++ rest) ≡ Found p (at + length (pair_bytes p))
 unfolding pair_bytes pair_reading_from pair_numbers
 pair_reads p rest at fit =
     let fields = packed pair.fields (pair_numbers p) in
     let next : at + 2 + 34 ≡ at + 36 = omega arith in
     ap (pair_reading_of at (pair_bytes p ++ rest)) (head_framed Output 257 34 34 fields rest lengths_pair (omega arith) (omega arith) (omega arith) (omega arith))
-    ∙ ap (λ (numbers : List ℕ). FoundPair (pair_in numbers) (at + 2 + 34)) (unpacked_packed pair.fields (pair_numbers p) rest fit)
-    ∙ ap (λ (q : Pair). FoundPair q (at + 2 + 34)) (pair_numbers_lem p)
-    ∙ ap (FoundPair p) next
+    ∙ ap (λ (numbers : List ℕ). Found (pair_in numbers) (at + 2 + 34)) (unpacked_packed pair.fields (pair_numbers p) rest fit)
+    ∙ ap (λ (q : Pair). Found q (at + 2 + 34)) (pair_numbers_lem p)
+    ∙ ap (Found p) next
 
 -- the stretch of a feed in which the text of a record should stand holds the text that it carries, where the bytes of the record are those left at its place
 text_reads : (r : Record) (text rest s : List ℕ) (at : ℕ) → Fitting r text → drop at s ≡ record_bytes r text ++ rest → stretch s (text_of at r) ≡ carried r text
@@ -96,6 +92,6 @@ record_reads_in r text front rest fit known short =
     record { found = found; text_found = ap (λ (answer : Reading). stretch s (text_in (length front) answer)) found ∙ text_reads r text rest s (length front) fit here }
 
 pub pair_reads_in : (p : Pair) (front rest : List ℕ) → Room pair.fields (pair_numbers p)
-    → pair_reading (front ++ (pair_bytes p ++ rest)) (length front) ≡ FoundPair p (length front + length (pair_bytes p))
+    → pair_reading (front ++ (pair_bytes p ++ rest)) (length front) ≡ Found p (length front + length (pair_bytes p))
 unfolding pair_reading
 pair_reads_in p front rest fit = rw (drop-append_seam front (pair_bytes p ++ rest)) (pair_reads p rest (length front) fit)

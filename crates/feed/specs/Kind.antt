@@ -1,9 +1,8 @@
 -- The table of kinds: for each its number, its shortest and its longest length, and its fields.
-use Rattle.std.specs.Prelude.{ℕ, ◌+◌, ◌^◌, ◌<◌, cond, List, [], ◌∷◌, ◌++◌, length, take, drop, eqb}
+use Rattle.std.specs.Prelude.{ℕ, ◌+◌, ◌^◌, ◌<◌, cond, Option, Some, None, List, [], ◌∷◌, ◌++◌, length, take, drop, eqb}
 use Rattle.feed.specs.declared.Feed.{Feed}
 use Rattle.feed.specs.declared.Feed.TheVariants.{Input, Output}
-use Rattle.feed.specs.declared.Lengths.{Lengths}
-use Rattle.feed.specs.declared.Lengths.TheVariants.{Unknown, Within}
+use Rattle.feed.specs.declared.Kind.{Kind as Row}
 use Rattle.feed.specs.Number.{value, bytes}
 
 -- a row of the table. A field is its width in bytes; the length counts all that follows it, the 2 bytes of the kind and the fields.
@@ -50,6 +49,16 @@ pair = record { number = 257; shortest = 34; longest = 34; fields = u32 ∷ u32 
 abbrev pub kinds_of : Feed → List Kind
 kinds_of Input = entry ∷ mark ∷ close ∷ note ∷ []
 kinds_of Output = pair ∷ []
+
+-- the lengths that records of a kind have, if the feed knows it
+pub data Lengths : Type 0 where
+  Unknown : Lengths
+  Within : ℕ → ℕ → Lengths
+
+-- those of the row of the table that was found
+abbrev pub lengths_seen : Option Row → Lengths
+lengths_seen (Some r) = Within r.shortest r.longest
+lengths_seen None = Unknown
 
 -- the lengths that a kind may have, if it is among these
 abbrev pub lengths_among : List Kind → ℕ → Lengths

@@ -1,21 +1,37 @@
 -- A reading answers a record with the place of the next, or a refusal with its place (the record's first byte), or End where no byte is left, a place past the feed's end included.
-use Rattle.std.specs.Prelude.{ℕ, ◌+◌, Bool, true, false, cond, not, ◌&&◌, ◌||◌, List, [], ◌∷◌, length, take, drop, ltb, leb, eqb}
+use Rattle.std.specs.Prelude.{ℕ, ◌+◌, Bool, true, false, cond, not, ◌&&◌, ◌||◌, Option, Some, None, Result, Ok, Err, List, [], ◌∷◌, length, take, drop, ltb, leb, eqb}
 use Rattle.feed.specs.declared.Feed.{Feed}
 use Rattle.feed.specs.declared.Feed.TheVariants.{Input, Output}
-use Rattle.feed.specs.declared.Lengths.{Lengths}
-use Rattle.feed.specs.declared.Lengths.TheVariants.{Unknown, Within}
-use Rattle.feed.specs.declared.Head.{Head}
-use Rattle.feed.specs.declared.Head.TheVariants.{Whole, Refused as refused_head, End as no_head}
-use Rattle.feed.specs.declared.Reading.{Reading}
-use Rattle.feed.specs.declared.Reading.TheVariants.{Found, Refused, End}
-use Rattle.feed.specs.declared.PairReading.{PairReading}
-use Rattle.feed.specs.declared.PairReading.TheVariants.{Found as FoundPair, Refused as refused_pair, End as no_pair}
+use Rattle.feed.specs.declared.Found.{Found as FoundAt}
+use Rattle.feed.specs.declared.Misread.{Misread}
 use Rattle.feed.specs.declared.Record.{Record}
+use Rattle.pairing.specs.declared.Pair.{Pair}
+use Rattle.refusals.specs.Table.{number_of}
+use Rattle.feed.specs.Head.{Head, Whole, Refused as refused_head, End as no_head}
 use Rattle.feed.specs.Number.{value}
-use Rattle.feed.specs.Kind.{pair, lengths_of, fields_in}
+use Rattle.feed.specs.Kind.{Lengths, Unknown, Within, pair, lengths_of, fields_in}
 use Rattle.lists.specs.Check.{Check, ◌gives◌, first_or}
 use Rattle.pairing.specs.Numbers.{pair_in}
 use Rattle.feed.specs.Record.{record_in, stream_known}
+
+pub data Answer (R : Type 0) : Type 0 where
+  Found : R → ℕ → Answer R
+  Refused : ℕ → ℕ → Answer R
+  End : Answer R
+
+-- of an input feed, whose records are entries, marks, closes and notes
+abbrev pub Reading : Type 0
+Reading = Answer Record
+
+-- of an output feed, whose records are pairs
+abbrev pub PairReading : Type 0
+PairReading = Answer Pair
+
+-- the same, as the code answers it; a refusal is told by its number
+abbrev pub reading_seen : {R : Type 0} → Result (Option (FoundAt R)) Misread → Answer R
+reading_seen (Ok (Some f)) = Found f.found f.next
+reading_seen (Ok None) = End
+reading_seen (Err m) = Refused (number_of m.refusal) m.place
 
 -- the length and the kind that stand at the front of some bytes
 abbrev pub length_in : List ℕ → ℕ
@@ -83,9 +99,9 @@ reading s at = reading_from at (drop at s)
 
 -- a reading of an output feed
 abbrev pub pair_reading_of : ℕ → List ℕ → Head → PairReading
-pair_reading_of at bs (Whole kind size) = FoundPair (pair_in (fields_in pair bs)) (at + 2 + size)
-pair_reading_of at bs (refused_head number) = refused_pair number at
-pair_reading_of at bs no_head = no_pair
+pair_reading_of at bs (Whole kind size) = Found (pair_in (fields_in pair bs)) (at + 2 + size)
+pair_reading_of at bs (refused_head number) = Refused number at
+pair_reading_of at bs no_head = End
 
 unfoldable pub pair_reading_from : ℕ → List ℕ → PairReading
 pair_reading_from at bs = pair_reading_of at bs (head_of Output bs)

@@ -1,11 +1,9 @@
 -- The text of a note is handed back as the very stretch of the feed it occupies; for anything but a note that stretch is empty.
 use Rattle.std.specs.Prelude.{ℕ, ◌+◌, List, [], ◌≡◌, take, drop}
 use Rattle.std.specs.Borrow.{Bor}
-use Rattle.feed.specs.declared.Reading.{Reading}
-use Rattle.feed.specs.declared.Reading.TheVariants.{Found, Refused, End}
 use Rattle.feed.specs.declared.Record.{Record}
 use Rattle.feed.specs.declared.Record.TheVariants.{Entry as entry_record, Mark, Close, Note}
-use Rattle.feed.specs.Reading.{reading}
+use Rattle.feed.specs.Reading.{Reading, Found, Refused, End, reading}
 
 -- the place where the text of a record at a place starts, and how many bytes it has
 abbrev pub text_of : ℕ → Record → ℕ × ℕ

@@ -1,45 +1,64 @@
 // Feed records: a feed is bytes, one record after another. The table of kinds, and reading the record at a place.
 #![tactic(auto)]
 
-ghost use Rattle.std.specs.Prelude.{◌≡◌, ◌+◌, ◌≤◌, length, take, drop};
+ghost use Rattle.std.specs.Prelude.{◌≡◌, ◌==◌, find, ◌+◌, ◌≤◌, length, take, drop};
 ghost use Rattle.feed.specs.Number.{value};
-ghost use Rattle.feed.specs.Kind.{entry, mark, close, pair, lengths_of, fields_in};
+ghost use Rattle.feed.specs.Kind.{entry, mark, close, pair, lengths_seen, lengths_of, fields_in};
 ghost use Rattle.pairing.specs.Numbers.{pair_in};
 ghost use Rattle.feed.specs.Record.{entry_from, mark_from, close_from, record_in, stream_known};
 ghost use Rattle.feed.specs.Text.{text_at, IsStretch};
-ghost use Rattle.feed.specs.Reading.{outside, shows, kind_checks, head_unless, head_of, found_at, reading, pair_reading};
+ghost use Rattle.feed.specs.Head.{whole_head, head_seen};
+ghost use Rattle.feed.specs.Reading.{outside, shows, kind_checks, head_unless, head_of, reading_seen, reading, pair_reading};
 
 use interval::Interval;
 use pairing::{Entry, Pair, Partner};
+use refusals::Refusal;
+use std::error::Error;
+use std::fmt;
 
-// The table of kinds: the number of each, and the length of its records, which counts all that follows it.
-pub const ENTRY: u16 = 1;
+// A row of the table of kinds: the number of a kind, and the shortest and longest length of its records, which counts all that follows it.
+#[derive(Clone, Copy, Debug, PartialEq, Eq)]
+pub struct Kind {
+    pub number: u16,
+    pub shortest: u16,
+    pub longest: u16,
+}
 
-pub const ENTRY_LENGTH: u16 = 20;
+pub const ENTRY: Kind = Kind {
+    number: 1,
+    shortest: 20,
+    longest: 20,
+};
 
-pub const MARK: u16 = 2;
+pub const MARK: Kind = Kind {
+    number: 2,
+    shortest: 8,
+    longest: 8,
+};
 
-pub const MARK_LENGTH: u16 = 8;
+pub const CLOSE: Kind = Kind {
+    number: 3,
+    shortest: 4,
+    longest: 4,
+};
 
-pub const CLOSE: u16 = 3;
+pub const NOTE: Kind = Kind {
+    number: 4,
+    shortest: 2,
+    longest: 66,
+};
 
-pub const CLOSE_LENGTH: u16 = 4;
-
-pub const NOTE: u16 = 4;
-
-pub const NOTE_SHORTEST: u16 = 2;
-
-pub const NOTE_LONGEST: u16 = 66;
+pub const PAIR: Kind = Kind {
+    number: 257,
+    shortest: 34,
+    longest: 34,
+};
 
 // The longest record with its two length bytes.
-pub const LONGEST_RECORD: usize = 2 + NOTE_LONGEST as usize;
-
-pub const PAIR: u16 = 257;
-
-pub const PAIR_LENGTH: u16 = 34;
+pub const LONGEST_RECORD: usize = 2 + NOTE.longest as usize;
 
 // A record of an input feed. A number before another is its stream.
-#[derive(Clone, Copy)]
+#[derive(Clone, Copy, Debug, PartialEq, Eq)]
 pub enum Record {
     Entry(u16, Entry),
     Mark(u16, u32),
@@ -48,24 +67,27 @@ pub enum Record {
     Note(usize),
 }
 
-// What reading an input feed at a place finds.
-#[derive(Clone, Copy)]
-pub enum Reading {
-    // A record and the place of the next.
-    Found(Record, usize),
-    // The number of the refusal and its place, the record's first byte.
-    Refused(u32, usize),
-    // No byte is left.
-    End,
+// What was found at a place: a record of an input feed, or a pair of an output feed, and the place of the next.
+#[derive(Clone, Copy, Debug, PartialEq, Eq)]
+pub struct Found<R> {
+    pub found: R,
+    pub next: usize,
 }
 
-// What reading an output feed at a place finds.
-#[derive(Clone, Copy)]
-pub enum PairReading {
-    Found(Pair, usize),
-    Refused(u32, usize),
-    End,
+// Why a reading is refused, and its place, the record's first byte.
+#[derive(Clone, Copy, Debug, PartialEq, Eq)]
+pub struct Misread {
+    pub refusal: Refusal,
+    pub place: usize,
 }
+
+impl fmt::Display for Misread {
+    fn fmt<W: fmt::Write>(&self, f: &mut fmt::Formatter<W>) -> fmt::Result {
+        write!(f, "refused {} at byte {}", self.refusal, self.place)
+    }
+}
+
+impl Error for Misread {}
 
 // The two kinds of feed, which know different kinds of record.
 #[derive(Clone, Copy)]
@@ -74,20 +96,11 @@ enum Feed {
     Output,
 }
 
-// The lengths that records of a kind have, if the feed knows it.
+// The length and the kind of a whole record.
 #[derive(Clone, Copy)]
-enum Lengths {
-    Unknown,
-    Within(u16, u16),
-}
-
-// What stands first in the rest of a feed.
-#[derive(Clone, Copy)]
-enum Head {
-    // A whole record: its kind and its length.
-    Whole(u16, u16),
-    Refused(u32),
-    End,
+struct Head {
+    kind: u16,
+    size: u16,
 }
 
 // The number in two bytes from a place on, the least byte first.
@@ -95,9 +108,7 @@ fn get16(s: &[u8], at: usize) -> u16
     requires { at + 2 ≤ length s.now }
     ensures { result ≡ value (take 2 (drop at s.now)) }
 {
-    let low = s[at];
-    let high = s[at + 1];
-    (low as u16) + 256 * (high as u16)
+    u16::from_le_bytes([s[at], s[at + 1]])
 }
 
 // The number in four bytes from a place on.
@@ -105,12 +116,11 @@ fn get32(s: &[u8], at: usize) -> u32
     requires { at + 4 ≤ length s.now }
     ensures { result ≡ value (take 4 (drop at s.now)) }
 {
-    let low = get16(s, at);
-    let high = get16(s, at + 2);
-    (low as u32) + 65536 * (high as u32)
+    u32::from_le_bytes([s[at], s[at + 1], s[at + 2], s[at + 3]])
 }
 
 // Is a length below the shortest or above the longest?
+#[tactic(auto, unfolding(crate::specs::Reading::outside))]
 fn outside(size: u16, shortest: u16, longest: u16) -> bool
     ensures { result ≡ outside shortest longest size }
 {
@@ -118,6 +128,7 @@ fn outside(size: u16, shortest: u16, longest: u16) -> bool
 }
 
 // Do some bytes show the record that stands first in them, or a length that no record has? What follows them does not matter then.
+#[tactic(auto, unfolding(crate::specs::Reading::shows, crate::specs::Reading::outside))]
 pub fn shows(s: &[u8]) -> bool
     ensures { result ≡ shows s.now }
 {
@@ -128,56 +139,54 @@ pub fn shows(s: &[u8]) -> bool
     outside(size, 2, 66) || size as usize <= s.len() - 2
 }
 
+// The row of a kind among some.
+fn row_among(rows: &[Kind], number: u16) -> Option<Kind>
+    ensures { result ≡ find (λ row. row.number == number) rows.now }
+{
+    rows.iter().copied().find(|row| row.number == number)
+}
+
 impl Feed {
-    // The table of kinds.
-    fn lengths(self, kind: u16) -> Lengths
-        ensures { result ≡ lengths_of self kind }
+    // The row of the table of kinds, if the feed knows the kind.
+    #[tactic(auto, unfolding(crate::specs::Kind::lengths_of))]
+    fn row(self, number: u16) -> Option<Kind>
+        ensures { lengths_seen result ≡ lengths_of self number }
     {
         match self {
-            Feed::Input => match kind {
-                ENTRY => Lengths::Within(ENTRY_LENGTH, ENTRY_LENGTH),
-                MARK => Lengths::Within(MARK_LENGTH, MARK_LENGTH),
-                CLOSE => Lengths::Within(CLOSE_LENGTH, CLOSE_LENGTH),
-                NOTE => Lengths::Within(NOTE_SHORTEST, NOTE_LONGEST),
-                _ => Lengths::Unknown,
-            },
-            Feed::Output => match kind {
-                PAIR => Lengths::Within(PAIR_LENGTH, PAIR_LENGTH),
-                _ => Lengths::Unknown,
-            },
+            Feed::Input => row_among(&[ENTRY, MARK, CLOSE, NOTE], number),
+            Feed::Output => row_among(&[PAIR], number),
         }
     }
 
     // The checks of a record's kind, and of its length for the kind.
-    fn whole(self, kind: u16, size: u16) -> Head
-        ensures { result ≡ head_unless (kind_checks self kind size) kind size }
+    #[tactic(auto, unfolding(crate::specs::Reading::kind_checks, crate::specs::Reading::head_unless))]
+    fn whole(self, kind: u16, size: u16) -> Result<Option<Head>, Refusal>
+        ensures { head_seen result ≡ head_unless (kind_checks self kind size) kind size }
     {
-        let lengths = self.lengths(kind);
-        let Lengths::Within(shortest, longest) = lengths else {
-            return Head::Refused(refusals::KIND);
-        };
-        if outside(size, shortest, longest) {
-            return Head::Refused(refusals::LENGTH);
+        let row = self.row(kind).ok_or(Refusal::Kind)?;
+        if outside(size, row.shortest, row.longest) {
+            return Err(Refusal::Length);
         }
-        Head::Whole(kind, size)
+        Ok(Some(Head { kind, size }))
     }
 
     // The checks that both feeds share, on what is left of a feed.
-    fn head(self, s: &[u8]) -> Head
-        ensures { result ≡ head_of self s.now }
+    #[tactic(auto, unfolding(crate::specs::Reading::head_of, crate::specs::Reading::head_unless, crate::specs::Reading::head_checks, crate::specs::Reading::outside))]
+    fn head(self, s: &[u8]) -> Result<Option<Head>, Refusal>
+        ensures { head_seen result ≡ head_of self s.now }
     {
-        if s.len() == 0 {
-            return Head::End;
+        if s.is_empty() {
+            return Ok(None);
         }
         if s.len() < 2 {
-            return Head::Refused(refusals::CUT);
+            return Err(Refusal::Cut);
         }
         let size = get16(s, 0);
         if outside(size, 2, 66) {
-            return Head::Refused(refusals::LENGTH);
+            return Err(Refusal::Length);
         }
         if s.len() - 2 < size as usize {
-            return Head::Refused(refusals::CUT);
+            return Err(Refusal::Cut);
         }
         let kind = get16(s, 2);
         self.whole(kind, size)
@@ -186,13 +195,14 @@ impl Feed {
 
 impl Record {
     // Is its stream 0 or 1? A note has none.
+    #[tactic(auto, unfolding(crate::specs::Record::stream_known))]
     fn stream_known(self) -> bool
         ensures { result ≡ stream_known self }
     {
         match self {
-            Record::Entry(stream, _) => stream < 2,
-            Record::Mark(stream, _) => stream < 2,
-            Record::Close(stream) => stream < 2,
+            Record::Entry(stream, _) | Record::Mark(stream, _) | Record::Close(stream) => {
+                stream < 2
+            }
             Record::Note(_) => true,
         }
     }
@@ -204,11 +214,12 @@ fn entry_in(s: &[u8]) -> Record
     ensures { result ≡ entry_from (fields_in entry s.now) }
 {
     let stream = get16(s, 4);
-    let start = get32(s, 6);
-    let end = get32(s, 10);
+    let span = Interval {
+        start: get32(s, 6),
+        end: get32(s, 10),
+    };
     let key = get32(s, 14);
     let value = get32(s, 18);
-    let span = Interval { start, end };
     Record::Entry(stream, Entry { span, key, value })
 }
 
@@ -217,9 +228,7 @@ fn mark_in(s: &[u8]) -> Record
     requires { 2 + mark.longest ≤ length s.now }
     ensures { result ≡ mark_from (fields_in mark s.now) }
 {
-    let stream = get16(s, 4);
-    let time = get32(s, 6);
-    Record::Mark(stream, time)
+    Record::Mark(get16(s, 4), get32(s, 6))
 }
 
 // The close that stands first in s.
@@ -227,105 +236,97 @@ fn close_in(s: &[u8]) -> Record
     requires { 2 + close.longest ≤ length s.now }
     ensures { result ≡ close_from (fields_in close s.now) }
 {
-    let stream = get16(s, 4);
-    Record::Close(stream)
+    Record::Close(get16(s, 4))
 }
 
 // The pair that stands first in s.
+#[tactic(auto, unfolding(pairing::specs::Numbers::pair_in))]
 fn pair_in(s: &[u8]) -> Pair
     requires { 2 + pair.longest ≤ length s.now }
     ensures { result ≡ pair_in (fields_in pair s.now) }
 {
-    let start = get32(s, 4);
-    let end = get32(s, 8);
-    let a_ordinal = get32(s, 12);
-    let b_ordinal = get32(s, 16);
-    let a_key = get32(s, 20);
-    let b_key = get32(s, 24);
-    let a_value = get32(s, 28);
-    let b_value = get32(s, 32);
-    let meeting = Interval { start, end };
+    let meeting = Interval {
+        start: get32(s, 4),
+        end: get32(s, 8),
+    };
     let a = Partner {
-        ordinal: a_ordinal,
-        key: a_key,
-        value: a_value,
+        ordinal: get32(s, 12),
+        key: get32(s, 20),
+        value: get32(s, 28),
     };
     let b = Partner {
-        ordinal: b_ordinal,
-        key: b_key,
-        value: b_value,
+        ordinal: get32(s, 16),
+        key: get32(s, 24),
+        value: get32(s, 32),
     };
     Pair { meeting, a, b }
 }
 
 // The record that stands first in s, after its head was found whole.
-fn record_in(kind: u16, size: u16, s: &[u8]) -> Record
-    requires { head_of Feed.Input s.now ≡ Head.Whole kind size }
-    ensures { result ≡ record_in kind size s.now }
+#[tactic(auto, using(crate::proofs::Heads::entry_enough, crate::proofs::Heads::mark_enough, crate::proofs::Heads::close_enough, crate::proofs::Heads::two_enough), unfolding(crate::specs::Record::record_in))]
+fn record_in(head: Head, s: &[u8]) -> Record
+    requires { head_of Feed.Input s.now ≡ whole_head head }
+    ensures { result ≡ record_in head.kind head.size s.now }
 {
-    match kind {
-        ENTRY => entry_in(s),
-        MARK => mark_in(s),
-        CLOSE => close_in(s),
-        _ => Record::Note(size as usize - 2),
-    }
-}
-
-// The last check of a record that stands at a place.
-fn found(at: usize, record: Record, next: usize) -> Reading
-    ensures { result ≡ found_at at «record» next }
-{
-    if record.stream_known() {
-        Reading::Found(record, next)
+    if head.kind == ENTRY.number {
+        entry_in(s)
+    } else if head.kind == MARK.number {
+        mark_in(s)
+    } else if head.kind == CLOSE.number {
+        close_in(s)
     } else {
-        Reading::Refused(refusals::STREAM, at)
+        Record::Note(head.size as usize - 2)
     }
 }
 
 // Reads the record at a place of an input feed.
-pub fn read(s: &[u8], at: usize) -> Reading
-    ensures { result ≡ reading s.now at }
+#[tactic(auto, using(crate::proofs::Readings::reading_past), unfolding(crate::specs::Reading::reading, crate::specs::Reading::reading_from, crate::specs::Reading::found_at))]
+pub fn read(s: &[u8], at: usize) -> Result<Option<Found<Record>>, Misread>
+    ensures { reading_seen result ≡ reading s.now at }
 {
-    if s.len() <= at {
-        return Reading::End;
+    let Some(rest) = s.get(at..) else {
+        return Ok(None);
+    };
+    let misread = |refusal| Misread { refusal, place: at };
+    let Some(head) = Feed::Input.head(rest).map_err(misread)? else {
+        return Ok(None);
+    };
+    let found = record_in(head, rest);
+    if !found.stream_known() {
+        return Err(misread(Refusal::Stream));
     }
-    let rest = &s[at..];
-    let head = Feed::Input.head(rest);
-    match head {
-        Head::End => Reading::End,
-        Head::Refused(number) => Reading::Refused(number, at),
-        Head::Whole(kind, size) => {
-            let record = record_in(kind, size, rest);
-            found(at, record, at + 2 + size as usize)
-        }
-    }
+    let next = at + 2 + head.size as usize;
+    Ok(Some(Found { found, next }))
 }
 
 // Reads the pair at a place of an output feed.
-pub fn read_pair(s: &[u8], at: usize) -> PairReading
-    ensures { result ≡ pair_reading s.now at }
+#[tactic(auto, using(crate::proofs::Readings::pair_past, crate::proofs::Heads::pair_enough), unfolding(crate::specs::Reading::pair_reading, crate::specs::Reading::pair_reading_from))]
+pub fn read_pair(s: &[u8], at: usize) -> Result<Option<Found<Pair>>, Misread>
+    ensures { reading_seen result ≡ pair_reading s.now at }
 {
-    if s.len() <= at {
-        return PairReading::End;
-    }
-    let rest = &s[at..];
-    let head = Feed::Output.head(rest);
-    match head {
-        Head::End => PairReading::End,
-        Head::Refused(number) => PairReading::Refused(number, at),
-        Head::Whole(_, size) => PairReading::Found(pair_in(rest), at + 2 + size as usize),
-    }
+    let Some(rest) = s.get(at..) else {
+        return Ok(None);
+    };
+    let misread = |refusal| Misread { refusal, place: at };
+    let Some(head) = Feed::Output.head(rest).map_err(misread)? else {
+        return Ok(None);
+    };
+    let next = at + 2 + head.size as usize;
+    Ok(Some(Found {
+        found: pair_in(rest),
+        next,
+    }))
 }
 
 // The text of the note at a place of an input feed, as the very stretch of the feed that it occupies; an empty stretch for anything but a note.
+#[tactic(auto, using(crate::proofs::Readings::note_ends), unfolding(crate::specs::Text::text_at))]
 pub fn text(s: &[u8], at: usize) -> &[u8]
     ensures { IsStretch s.entry (text_at s.now at) result }
 {
-    let found = read(s, at);
-    let Reading::Found(record, _) = found else {
+    let Ok(Some(read)) = read(s, at) else {
         return &s[..0];
     };
-    let Record::Note(size) = record else {
+    let Record::Note(size) = read.found else {
         return &s[..0];
     };
     let from = at + 4;

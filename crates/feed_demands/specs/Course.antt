@@ -1,8 +1,7 @@
 -- A run over a feed, as joinfeed's, as calls made of a join: which records it accepts, which calls it makes, and why it stops.
 use Rattle.std.specs.Prelude.{ℕ, zero, suc, List, [], ◌∷◌, ◌++◌, length, take, drop, replicate}
 use Rattle.pairing.specs.declared.Rule.{Rule}
-use Rattle.journal.specs.declared.Answer.{Answer}
-use Rattle.journal.specs.declared.Answer.TheVariants.{Accepted, Refused}
+use Rattle.journal.specs.Answer.{Answer, Accepted, Refused}
 use Rattle.demands.specs.History.{Call, Enter, Mark, Close, Take, World, begin, run}
 use Rattle.demands.specs.Takes.{ready_now}
 use Rattle.feed.specs.declared.Reading.{Reading}

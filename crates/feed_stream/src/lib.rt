@@ -5,41 +5,28 @@ ghost use Rattle.std.specs.Prelude.{◌≡◌, ℕ, List, false, ◌+◌, ◌-�
 ghost use Rattle.std.specs.Io.KnownBytes.{Appends, Consumes};
 ghost use Rattle.std.proofs.Math.Seq.{slice};
 ghost use Rattle.feed.specs.Kind.{shortest_record, longest_record};
-ghost use Rattle.framing.specs.Step.{stepped};
+ghost use Rattle.framing.specs.Step.{More, On, stepped, went_of, used_of, filled_of};
 ghost use Rattle.steps.specs.Printed.{joinfeed, printed};
-ghost use Rattle.steps.specs.Step.{effect_with, progress_with, Kept, room};
+ghost use Rattle.steps.specs.Step.{effect_with, Kept, room};
 
 use framing::Went;
-use join::Join;
 use pairing::Rule;
 use pipe::Flow;
 use std::io;
 use std::io::{Read, Write};
-use steps::{Counts, ROOM, Stepped, step};
+use steps::{Progress, ROOM};
 
 // One step on the bytes of the window that are not used yet, putting behind what is filled of the buffer.
-pub fn step_on(
-    join: Join,
-    a: &mut area::Places,
-    b: &mut area::Places,
-    rows: &mut queue::Places,
-    counts: Counts,
-    flow: Flow,
-    window: &[u8],
-    out: &mut [u8],
-) -> Stepped
-    requires { (Kept (progress_with join a.old b.old rows.old counts) flow.left) × (flow.at ≤ flow.end) × (flow.end ≤ length window.now) × (flow.filled + room ≤ length out.old) }
-    ensures kept { Kept (progress_with result.join a.new b.new rows.new result.counts) (flow.left - result.used) }
-    ensures used_le_left { (result.used ≤ flow.left) × (flow.at + result.used ≤ flow.end) × (flow.filled + result.filled ≤ length out.old) × (result.went ≡ Went.On → shortest_record ≤ result.used) × (result.went ≡ Went.More → (flow.ended ≡ false) × (flow.end - flow.at < longest_record) × (result.used ≡ 0)) }
-    ensures out_after { effect_with result a.new b.new rows.new (drop flow.filled out.new) ≡ stepped joinfeed (progress_with join a.old b.old rows.old counts) flow.left (slice flow.at flow.end window.now) flow.ended (drop flow.filled out.old) }
-    ensures out_unchanged { take flow.filled out.new ≡ take flow.filled out.old }
+pub fn step_on(run: &mut Progress, flow: &Flow, window: &[u8], out: &mut [u8]) -> Went
+    requires { (Kept run.old flow.now.left) × (flow.now.at ≤ flow.now.end) × (flow.now.end ≤ length window.now) × (flow.now.filled + room ≤ length out.old) }
+    ensures kept { Kept run.new (flow.now.left - used_of result) }
+    ensures bounds { (used_of result ≤ flow.now.left) × (flow.now.at + used_of result ≤ flow.now.end) × (flow.now.filled + filled_of result ≤ length out.old) × (went_of result ≡ On → shortest_record ≤ used_of result) × (went_of result ≡ More → (flow.now.ended ≡ false) × (flow.now.end - flow.now.at < longest_record) × (used_of result ≡ 0)) }
+    ensures out_after { effect_with result run.new (drop flow.now.filled out.new) ≡ stepped joinfeed run.old flow.now.left (slice flow.now.at flow.now.end window.now) flow.now.ended (drop flow.now.filled out.old) }
+    ensures out_unchanged { take flow.now.filled out.new ≡ take flow.now.filled out.old }
 {
-    let at = flow.at;
-    let end = flow.end;
-    let filled = flow.filled;
-    let shown = &window[at..end];
-    let free = &mut out[filled..];
-    step(join, a, b, rows, counts, flow.left, shown, flow.ended, free)
+    let shown = &window[flow.at..flow.end];
+    let free = &mut out[flow.filled..];
+    run.step(flow.left, shown, flow.ended, free)
 }
 
 // How many bytes the window has, and the buffer of what is put out.
@@ -55,29 +42,16 @@ pub fn join_input<R: Read, W: Write, E: Write>(
     ensures written { OnOk result (IfSome (R.remaining input.old) (λ feed. Appends (W.contents output.old) (W.contents output.new) (printed Rule.Equal limit feed))) }
     ensures in_limit { OnOk result ((bytes : List ℕ) × (length bytes ≤ limit) × Consumes (R.remaining input.old) (R.remaining input.new) bytes) }
 {
-    let mut a = area::no_places();
-    let mut b = area::no_places();
-    let mut rows = queue::no_places();
-    let mut join = Join::fresh(Rule::Equal);
-    let mut counts = Counts {
-        records: 0,
-        pairs: 0,
-    };
+    let mut run = Progress::begun(Rule::Equal);
     let mut window = [0u8; SIZE];
     let mut out = [0u8; SIZE];
     let mut flow = Flow::begun(limit);
     loop {
-        let stepped = step_on(
-            join, &mut a, &mut b, &mut rows, counts, flow, &window, &mut out,
-        );
-        join = stepped.join;
-        counts = stepped.counts;
-        let went = stepped.went;
-        match went {
+        match step_on(&mut run, &flow, &window, &mut out) {
             Went::More => flow = flow.refill(input, output, &mut window, &out)?,
-            Went::On => flow = flow.go_on(output, &out, stepped.used, stepped.filled, ROOM)?,
-            Went::Ended => {
-                return flow.finish(output, errors, &out, stepped.filled, counts.records);
+            Went::On { used, filled } => flow = flow.go_on(output, &out, used, filled, ROOM)?,
+            Went::Ended { filled } => {
+                return flow.finish(output, errors, &out, filled, run.records);
             }
         }
     }

@@ -10,9 +10,8 @@ use Rattle.pairing.specs.declared.Entry.{Entry}
 use Rattle.pairing.specs.declared.Rule.{Rule}
 use Rattle.pairing.specs.declared.Side.{Side}
 use Rattle.pairing.specs.Rule.{allows}
-use Rattle.journal.specs.declared.Answer.TheVariants.{Accepted}
 use Rattle.journal.specs.declared.Journal.{Journal}
-use Rattle.journal.specs.Answer.{first_of}
+use Rattle.journal.specs.Answer.{Accepted, first_of}
 use Rattle.journal.specs.Journal.{wanted, is_closed, own_rows}
 use Rattle.journal.proofs.Facts.{OwnMet, own_met}
 use Rattle.journal.proofs.Rows.{accepted_rows, accepted_both}

@@ -3,8 +3,7 @@ use Prim.Native.Nat.{ℕ, ◌≤◌, ◌<◌}
 use mathlib.Core.Bool.{Bool, true, false}
 use mathlib.Core.Path.{◌≡◌}
 use borrow.Author.Tests.{lt-ltb, le-ltb, le-leb, lt-leb}
-use Rattle.journal.specs.declared.Answer.TheVariants.{Accepted, Refused}
-use Rattle.journal.specs.Answer.{first_of}
+use Rattle.journal.specs.Answer.{Accepted, Refused, first_of}
 use Rattle.area.specs.Area as area
 use Rattle.queue.specs.Queue as queue
 use Rattle.halves.specs.Calls.{room_for}

@@ -1,7 +1,6 @@
 -- What is stored is seen, and what is seen is stored.
 use mathlib.Core.Path.{◌≡◌, sym, ap}
 use lib.ListN.{length}
-use Rattle.lists.specs.Store.{Rows}
 use Rattle.pairing.specs.declared.Side.{Side}
 use Rattle.pairing.specs.declared.Side.TheVariants.{A, B}
 use Rattle.area.specs.Area as area
@@ -9,11 +8,10 @@ use Rattle.area.proofs.Sound.{held_stored, area_held, held_length}
 use Rattle.queue.specs.declared.Queue.{Queue}
 use Rattle.queue.specs.Queue as queue
 use Rattle.queue.proofs.Sound.{waiting_stored, queue_waiting}
-use Rattle.halves.specs.declared.Halves.{Halves}
-use Rattle.halves.specs.View.{View, Leaves, seen, halves_of}
+use Rattle.halves.specs.View.{View, Halves, seen, halves_of}
 
 -- what the halves that hold a view show
-pub seen_stored : (v : View) → seen (halves_of v) (area.rows_of v.mine) (area.rows_of v.others) (queue.rows_of v.waiting) ≡ v
+pub seen_stored : (v : View) → seen (halves_of v) ≡ v
 seen_stored v = λ i. record {
   rule = v.rule;
   own = v.own;
@@ -23,32 +21,27 @@ seen_stored v = λ i. record {
   waiting = waiting_stored v.waiting i;
 }
 
-module _ (halves : Halves) (mine others rows : Rows) (m : area.Holds halves.own.area mine) (o : area.Holds halves.other.area others) (w : queue.Holds halves.queue rows) where
+module _ (halves : Halves) (m : area.Holds halves.own.area) (o : area.Holds halves.other.area) (w : queue.Holds halves.queue) where
   abbrev v : View
-  v = seen halves mine others rows
+  v = seen halves
 
   -- the counts of the halves are the lengths of what they show
   pub mine_length : length v.mine ≡ halves.own.area.count
-  mine_length = held_length halves.own.area mine m
+  mine_length = held_length halves.own.area m
 
   pub others_length : length v.others ≡ halves.other.area.count
-  others_length = held_length halves.other.area others o
+  others_length = held_length halves.other.area o
 
   pub waiting_length : length v.waiting ≡ halves.queue.count
-  waiting_length = ap (λ (q : Queue). q.count) (queue_waiting halves.queue rows w)
+  waiting_length = ap (λ (q : Queue). q.count) (queue_waiting halves.queue w)
 
-  -- halves whose places store what they hold store what they show
-  pub leaves_seen : Leaves v halves mine others rows
-  leaves_seen = record {
-    both = λ i. record {
-      rule = halves.rule;
-      own = record { journal = halves.own.journal; area = sym (area_held halves.own.area mine m) i };
-      other = record { journal = halves.other.journal; area = sym (area_held halves.other.area others o) i };
-      queue = sym (queue_waiting halves.queue rows w) i;
-    };
-    mine_rows = m.same;
-    others_rows = o.same;
-    queue_rows = w.same;
+  -- halves that store what they hold are those of what they show
+  pub halves_seen : halves ≡ halves_of v
+  halves_seen = λ i. record {
+    rule = halves.rule;
+    own = record { journal = halves.own.journal; area = sym (area_held halves.own.area m) i };
+    other = record { journal = halves.other.journal; area = sym (area_held halves.other.area o) i };
+    queue = sym (queue_waiting halves.queue w) i;
   }
 
 -- ---- the other side

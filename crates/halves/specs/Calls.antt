@@ -16,7 +16,8 @@ use Rattle.journal.specs.declared.Journal.{Journal}
 use Rattle.journal.specs.Journal.{wanted, is_closed, moved, entered, own_rows}
 use Rattle.area.specs.Area as area
 use Rattle.queue.specs.Queue as queue
-use Rattle.halves.specs.View.{View}
+use Rattle.halves.specs.declared.Half.{Half}
+use Rattle.halves.specs.View.{View, half_of}
 
 -- ---- an entry
 
@@ -67,6 +68,13 @@ after_move gate v = record {
   others = area.wanted_by gate v.others;
   waiting = v.waiting;
 }
+
+-- the half whose gate moves, and the other, whose area is cleared
+abbrev pub moved_half : Gate → Half → Half
+moved_half gate half = record { journal = moved gate half.journal; area = half.area }
+
+abbrev pub cleared_half : Gate → Half → Half
+cleared_half gate half = half_of half.journal (area.wanted_by gate (area.held half.area))
 
 -- a close is refused with 2; a mark follows the rows of its journal alone
 abbrev pub close_rows : Journal → List Check

@@ -1,18 +1,10 @@
 -- The contract of each public function allows one result.
 use Rattle.unique.specs.Unique.{OneResult}
 use Rattle.unique.proofs.Equation.{one_by_equation}
-use Rattle.interval.proofs.larger.Reads as larger
-use Rattle.interval.proofs.smaller.Reads as smaller
 use Rattle.interval.proofs.Interval.holds.Reads as holds
 use Rattle.interval.proofs.Interval.proper.Reads as proper
 use Rattle.interval.proofs.Interval.length.Reads as length
 use Rattle.interval.proofs.Interval.meeting.Reads as meeting
-
-one_larger : OneResult larger.Post
-one_larger = one_by_equation _ _
-
-one_smaller : OneResult smaller.Post
-one_smaller = one_by_equation _ _
 
 one_holds : OneResult holds.Post
 one_holds = one_by_equation _ _

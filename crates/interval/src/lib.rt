@@ -1,8 +1,10 @@
 // Half-open intervals: whether one holds an instant, how long it is, and where two of them meet.
 #![tactic(auto)]
 
-ghost use Rattle.std.specs.Prelude.{◌≡◌, max, min};
+ghost use Rattle.std.specs.Prelude.{◌≡◌};
 ghost use Rattle.interval.specs.Interval.{holds_at, proper_of, length_of, meeting_of};
+
+use std::fmt;
 
 // From start up to end, the end left out.
 #[derive(Clone, Copy, Debug, Default, PartialEq, Eq)]
@@ -11,20 +13,7 @@ pub struct Interval {
     pub end: u32,
 }
 
-// The larger of two numbers.
-pub fn larger(a: u32, b: u32) -> u32
-    ensures { result ≡ max a b }
-{
-    if a < b { b } else { a }
-}
-
-// The smaller of two numbers.
-pub fn smaller(a: u32, b: u32) -> u32
-    ensures { result ≡ min a b }
-{
-    if a < b { a } else { b }
-}
-
+#[tactic(auto, unfolding(crate::specs::Interval::holds_at, crate::specs::Interval::proper_of, crate::specs::Interval::length_of, crate::specs::Interval::meeting_of))]
 impl Interval {
     // Does it hold at the instant t?
     pub fn holds(self, t: u32) -> bool
@@ -44,19 +33,23 @@ impl Interval {
     pub fn length(self) -> u32
         ensures { result ≡ length_of self }
     {
-        if self.start < self.end {
-            self.end - self.start
-        } else {
-            0
-        }
+        self.end.saturating_sub(self.start)
     }
 
     // Where both hold. It is improper where they never do at once.
     pub fn meeting(self, other: Interval) -> Interval
         ensures { result ≡ meeting_of self other }
     {
-        let start = larger(self.start, other.start);
-        let end = smaller(self.end, other.end);
-        Interval { start, end }
+        Interval {
+            start: self.start.max(other.start),
+            end: self.end.min(other.end),
+        }
+    }
+}
+
+// As [start,end), with the end left out.
+impl fmt::Display for Interval {
+    fn fmt<W: fmt::Write>(&self, f: &mut fmt::Formatter<W>) -> fmt::Result {
+        write!(f, "[{},{})", self.start, self.end)
     }
 }

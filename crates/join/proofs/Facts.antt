@@ -7,7 +7,7 @@ use lib.Dec.{leb}
 use borrow.Author.Tests.{ltb-false, not-false}
 use Rattle.lists.specs.Check.{Check}
 use Rattle.lists.proofs.Bools.{and_left, and_right}
-use Rattle.journal.specs.declared.Answer.TheVariants.{Accepted}
+use Rattle.journal.specs.Answer.{Accepted}
 use Rattle.journal.specs.Answer.{first_of}
 use Rattle.journal.specs.Journal.{entries}
 use Rattle.journal.proofs.Rows.{accepted_rows, accepted_both}
@@ -18,24 +18,24 @@ use Rattle.join.specs.Calls.{judge_rows}
 
 -- what the judge passes, part by part
 pub record Parts (s : State) : Type 0 where
-  pub count_a : leb s.join.a.journal.accepted entries ≡ true
-  pub count_b : leb s.join.b.journal.accepted entries ≡ true
-  pub area_a : area.sound_area s.join.rule s.join.a.journal s.join.b.journal.gate s.join.a.area s.in_a ≡ true
-  pub area_b : area.sound_area s.join.rule s.join.b.journal s.join.a.journal.gate s.join.b.area s.in_b ≡ true
-  pub waits : queue.sound_queue s.join.a.journal.accepted s.join.b.journal.accepted s.join.queue s.rows ≡ true
+  pub count_a : leb s.a.journal.accepted entries ≡ true
+  pub count_b : leb s.b.journal.accepted entries ≡ true
+  pub area_a : area.sound_area s.rule s.a.journal s.b.journal.gate s.a.area ≡ true
+  pub area_b : area.sound_area s.rule s.b.journal s.a.journal.gate s.b.area ≡ true
+  pub waits : queue.sound_queue s.a.journal.accepted s.b.journal.accepted s.queue ≡ true
 
 pub sound_parts : (s : State) → sound s ≡ true → Parts s
 unfolding sound
 sound_parts s h =
-    let e1 = and_right (leb s.join.a.journal.accepted entries) _ h in
-    let e2 = and_right (leb s.join.b.journal.accepted entries) _ e1 in
-    let e3 = and_right (area.sound_area s.join.rule s.join.a.journal s.join.b.journal.gate s.join.a.area s.in_a) _ e2 in
+    let e1 = and_right (leb s.a.journal.accepted entries) _ h in
+    let e2 = and_right (leb s.b.journal.accepted entries) _ e1 in
+    let e3 = and_right (area.sound_area s.rule s.a.journal s.b.journal.gate s.a.area) _ e2 in
     record {
-      count_a = and_left (leb s.join.a.journal.accepted entries) _ h;
-      count_b = and_left (leb s.join.b.journal.accepted entries) _ e1;
-      area_a = and_left (area.sound_area s.join.rule s.join.a.journal s.join.b.journal.gate s.join.a.area s.in_a) _ e2;
-      area_b = and_left (area.sound_area s.join.rule s.join.b.journal s.join.a.journal.gate s.join.b.area s.in_b) _ e3;
-      waits = and_right (area.sound_area s.join.rule s.join.b.journal s.join.a.journal.gate s.join.b.area s.in_b) _ e3;
+      count_a = and_left (leb s.a.journal.accepted entries) _ h;
+      count_b = and_left (leb s.b.journal.accepted entries) _ e1;
+      area_a = and_left (area.sound_area s.rule s.a.journal s.b.journal.gate s.a.area) _ e2;
+      area_b = and_left (area.sound_area s.rule s.b.journal s.a.journal.gate s.b.area) _ e3;
+      waits = and_right (area.sound_area s.rule s.b.journal s.a.journal.gate s.b.area) _ e3;
     }
 
 -- a state that has them all passes the judge

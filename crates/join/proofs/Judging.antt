@@ -7,10 +7,10 @@ use Rattle.journal.specs.Journal.{entries}
 use Rattle.join.specs.State.{State, sound}
 
 module _ (s : State) where
-  pub too_many_a : entries < s.join.a.journal.accepted → false ≡ sound s
+  pub too_many_a : entries < s.a.journal.accepted → false ≡ sound s
   unfolding sound
-  too_many_a h = rw (lt-leb s.join.a.journal.accepted entries h)
+  too_many_a h = rw (lt-leb s.a.journal.accepted entries h)
 
-  pub too_many_b : s.join.a.journal.accepted ≤ entries → entries < s.join.b.journal.accepted → false ≡ sound s
+  pub too_many_b : s.a.journal.accepted ≤ entries → entries < s.b.journal.accepted → false ≡ sound s
   unfolding sound
-  too_many_b f h = rw (le-leb s.join.a.journal.accepted entries f, lt-leb s.join.b.journal.accepted entries h)
+  too_many_b f h = rw (le-leb s.a.journal.accepted entries f, lt-leb s.b.journal.accepted entries h)

@@ -11,7 +11,7 @@ use Rattle.pairing.specs.declared.Entry.{Entry}
 use Rattle.pairing.specs.declared.Rule.{Rule}
 use Rattle.pairing.specs.declared.Side.{Side}
 use Rattle.pairing.specs.declared.Side.TheVariants.{A, B}
-use Rattle.journal.specs.declared.Answer.TheVariants as answer
+use Rattle.journal.specs.Answer as answer
 use Rattle.journal.specs.declared.Gate.TheVariants.{Open, Closed}
 use Rattle.journal.specs.Answer.{first_of}
 use Rattle.journal.specs.Journal.{entries, fresh_journal, mark_rows}
@@ -25,8 +25,7 @@ use Rattle.halves.specs.Calls.{entry_rows, after_entry, after_move, close_rows}
 use Rattle.halves.proofs.Facts.{entry_met}
 use Rattle.halves.proofs.Kept.{SoundView, sound_turned, sound_move, sound_entry_lem}
 use Rattle.halves.proofs.View.{turned}
-use Rattle.join.specs.declared.Took.{Took}
-use Rattle.join.specs.declared.Took.TheVariants.{Handed, Waiting, Finished, Refused}
+use Rattle.join.specs.Calls.{Took, Handed, Waiting, Finished, Refused}
 use Rattle.join.specs.State.{State, sound, Sound, view, state_of, fresh_state}
 use Rattle.join.specs.Calls.{called, side_of, judge_rows, entry_on, entry_call, mark_on, mark_call, close_on, close_call, waiting_in, ready_in, both_closed, next_of, without, after_take, take_on, take_call}
 use Rattle.join.proofs.Facts.{sound_parts, parts_sound, judged_met}
@@ -37,15 +36,15 @@ use Rattle.join.proofs.View.{view_across, state_of_across}
 seen_from_a : (s : State) → Sound s → SoundView A (view A s)
 unfolding view
 seen_from_a s h =
-    let a = s.join.a in
-    let b = s.join.b in
+    let a = s.a in
+    let b = s.b in
     let part = sound_parts s h.judged in
     record {
       own_count = leb-true a.journal.accepted entries part.count_a;
       other_count = leb-true b.journal.accepted entries part.count_b;
-      mine = areas.judged_held s.join.rule a.journal b.journal.gate a.area s.in_a h.holds_a part.area_a;
-      others = areas.judged_held s.join.rule b.journal a.journal.gate b.area s.in_b h.holds_b part.area_b;
-      waiting = queues.judged_waiting a.journal.accepted b.journal.accepted s.join.queue s.rows h.holds_queue part.waits;
+      mine = areas.judged_held s.rule a.journal b.journal.gate a.area h.holds_a part.area_a;
+      others = areas.judged_held s.rule b.journal a.journal.gate b.area h.holds_b part.area_b;
+      waiting = queues.judged_waiting a.journal.accepted b.journal.accepted s.queue h.holds_queue part.waits;
     }
 
 -- what a side sees of a sound state is sound
@@ -142,10 +141,10 @@ module _ (s : State) (h : Sound s) where
   pub without_kept : (k : ℕ) → Sound (without k s)
   unfolding without
   without_kept k =
-      let of_a = s.join.a.journal.accepted in
-      let of_b = s.join.b.journal.accepted in
+      let of_a = s.a.journal.accepted in
+      let of_b = s.b.journal.accepted in
       let part = sound_parts s h.judged in
-      let left = queues.waiting_dropped A of_a of_b (waiting_in s) (queues.judged_waiting of_a of_b s.join.queue s.rows h.holds_queue part.waits) k in
+      let left = queues.waiting_dropped A of_a of_b (waiting_in s) (queues.judged_waiting of_a of_b s.queue h.holds_queue part.waits) k in
       record {
         judged = parts_sound (without k s) (record {
           count_a = part.count_a;
@@ -166,7 +165,7 @@ module _ (s : State) (h : Sound s) where
   after_kept (Refused number) = h
 
   pub take_on_kept : Sound (take_on s).state
-  take_on_kept = after_kept (next_of (ready_in s) (both_closed s.join) (waiting_in s))
+  take_on_kept = after_kept (next_of (ready_in s) (both_closed s) (waiting_in s))
 
   pub take_kept : Sound (take_call s).state
   unfolding take_call

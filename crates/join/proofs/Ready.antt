@@ -19,7 +19,7 @@ use Rattle.pairing.specs.declared.Side.{Side}
 use Rattle.pairing.specs.declared.Side.TheVariants.{A, B}
 use Rattle.pairing.specs.Pair.{comes_before}
 use Rattle.pairing.proofs.Arrival.{pair_from_start, all_new_pairs}
-use Rattle.journal.specs.declared.Answer.TheVariants.{Accepted}
+use Rattle.journal.specs.Answer.{Accepted}
 use Rattle.journal.specs.declared.Gate.{Gate}
 use Rattle.journal.specs.declared.Gate.TheVariants.{Open, Closed}
 use Rattle.journal.specs.Answer.{first_of}
@@ -27,6 +27,7 @@ use Rattle.journal.specs.Journal.{mark_rows}
 use Rattle.journal.proofs.Facts.{timely_onward, mark_met}
 use Rattle.journal.proofs.Onward.{Onward, onward_same, onward_closed}
 use Rattle.journal.proofs.Rows.{unless_refused_lem}
+use Rattle.queue.specs.declared.Queue.{Queue}
 use Rattle.queue.specs.Queue as queue
 use Rattle.queue.proofs.Sound.{waiting_stored, queue_waiting}
 use Rattle.queue.proofs.Ready.{keep_ready_comm, ready_ahead, ready_head, ready_grows}
@@ -34,10 +35,9 @@ use Rattle.halves.specs.View.{View}
 use Rattle.halves.specs.Calls.{arrival, formed, entry_rows, after_entry, after_move, close_rows}
 use Rattle.halves.proofs.Facts.{entry_met}
 use Rattle.halves.proofs.Kept.{sound_move, sound_entry_lem}
-use Rattle.join.specs.declared.Took.{Took}
-use Rattle.join.specs.declared.Took.TheVariants.{Handed}
+use Rattle.join.specs.Calls.{Took, Handed}
 use Rattle.join.specs.State.{State, Sound, view, state_of}
-use Rattle.join.specs.Calls.{Outcome, called, side_of, judge_rows, entry_call, mark_call, close_call, waiting_in, ready_in, ready_of, both_closed, next_of, without, after_take, take_on, take_call}
+use Rattle.join.specs.Calls.{Outcome, called, side_of, judge_rows, entry_call, mark_call, close_call, waiting_in, ready_in, ready_of, both_closed, next_of, with_queue, without, after_take, take_on, take_call}
 use Rattle.join.proofs.Facts.{judged_met}
 use Rattle.join.proofs.View.{view_state_of, view_waiting}
 use Rattle.join.proofs.Kept.{sound_view, without_kept}
@@ -60,7 +60,7 @@ ready_seen v = filter (queue.ready v.own.gate v.other.gate) v.waiting
 ready_seen_lem : (side : Side) (s : State) → ready_of s ≡ ready_seen (view side s)
 unfolding view
 ready_seen_lem A s = refl
-ready_seen_lem B s = keep_ready_comm s.join.a.journal.gate s.join.b.journal.gate (waiting_in s)
+ready_seen_lem B s = keep_ready_comm s.a.journal.gate s.b.journal.gate (waiting_in s)
 
 -- what is ready in s stays first among what is ready in t
 abbrev pub Grows : State → State → Type 0
@@ -153,38 +153,27 @@ module _ (s : State) (h : Sound s) where
           let first : q ≡ p = cc in
           let then : filter (ready_in s) qs ≡ rest = cc in (
             take_sound
-                ∙ ap (λ (l : List Pair). record { answer = next_of (ready_in s) (both_closed s.join) l; state = after_take (next_of (ready_in s) (both_closed s.join) l) s }) w
+                ∙ ap (λ (l : List Pair). record { answer = next_of (ready_in s) (both_closed s) l; state = after_take (next_of (ready_in s) (both_closed s) l) s }) w
                 ∙ rw (r, first),
             ap (filter (ready_in (without 1 s))) (waiting_without 1 s ∙ ap (drop 1) w) ∙ ap (λ (f : Pair → Bool). filter f qs) (ready_without 1 s) ∙ then,
           )
 
       go : (l : List Pair) → waiting_in s ≡ l → Ascending comes_before l → (take_call s ≡ record { answer = Handed p; state = without 1 s }) × (ready_of (without 1 s) ≡ rest)
       go [] w a = let none : [] ≡ p ∷ rest = rw w at e in absurd (let z : ◌≡◌ {A = ℕ} 0 1 = cc in omega arith)
-      go (q ∷ qs) w a = done q qs w (ready_head s.join.a.journal.gate s.join.b.journal.gate q qs a p rest (rw w at e))
+      go (q ∷ qs) w a = done q qs w (ready_head s.a.journal.gate s.b.journal.gate q qs a p rest (rw w at e))
 
 -- ---- takes one after the other
 
 -- dropping none changes nothing
 pub without_none : (s : State) → Sound s → without 0 s ≡ s
 unfolding without
-without_none s h = λ i. record {
-  join = record { rule = s.join.rule; a = s.join.a; b = s.join.b; queue = queue_waiting s.join.queue s.rows h.holds_queue i };
-  in_a = s.in_a;
-  in_b = s.in_b;
-  rows = sym h.holds_queue.same i;
-}
+without_none s h = ap (λ (q : Queue). with_queue q s) (queue_waiting s.queue h.holds_queue)
 
 -- dropping twice is dropping once
 pub without_without : (m n : ℕ) (s : State) → without m (without n s) ≡ without (n + m) s
 unfolding without
 without_without m n s =
-    let left : drop m (waiting_in (without n s)) ≡ drop (n + m) (waiting_in s) = ap (drop m) (waiting_without n s) ∙ drop-drop m n (waiting_in s) in
-    λ i. record {
-      join = record { rule = s.join.rule; a = s.join.a; b = s.join.b; queue = queue.queue_of (left i) };
-      in_a = s.in_a;
-      in_b = s.in_b;
-      rows = queue.rows_of (left i);
-    }
+    ap (λ (ps : List Pair). with_queue (queue.queue_of ps) s) (ap (drop m) (waiting_without n s) ∙ drop-drop m n (waiting_in s))
 
 -- the state after k takes
 abbrev pub taken_from : ℕ → State → State

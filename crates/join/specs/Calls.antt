@@ -1,20 +1,21 @@
 -- What each call answers and leaves, for every state and every argument.
-use Rattle.std.specs.Prelude.{ℕ, Bool, cond, not, ◌&&◌, List, [], ◌∷◌, ◌++◌, ltb, eqb, drop}
+use Rattle.std.specs.Prelude.{ℕ, Bool, cond, not, ◌&&◌, List, [], ◌∷◌, ◌++◌, ltb, eqb, drop, Result, Ok, Err}
 use Rattle.std.specs.Prelude.{filter}
 use Rattle.lists.specs.Check.{Check, ◌gives◌}
 use Rattle.pairing.specs.declared.Entry.{Entry}
 use Rattle.pairing.specs.declared.Pair.{Pair}
 use Rattle.pairing.specs.declared.Side.{Side}
 use Rattle.pairing.specs.declared.Side.TheVariants.{A, B}
-use Rattle.journal.specs.declared.Answer.{Answer}
 use Rattle.journal.specs.declared.Gate.TheVariants.{Open, Closed}
-use Rattle.journal.specs.Answer.{first_of, unless_refused}
+use Rattle.journal.specs.Answer.{Answer, first_of, unless_refused}
 use Rattle.journal.specs.Journal.{is_closed, mark_rows}
+use Rattle.refusals.specs.declared.Refusal.{Refusal}
+use Rattle.refusals.specs.Table.{number_of}
+use Rattle.queue.specs.declared.Queue.{Queue}
 use Rattle.queue.specs.Queue as queue
 use Rattle.halves.specs.Calls.{entry_rows, after_entry, after_move, close_rows}
-use Rattle.join.specs.declared.Join.{Join}
-use Rattle.join.specs.declared.Took.{Took}
-use Rattle.join.specs.declared.Took.TheVariants.{Handed, Waiting, Finished, Refused}
+use Rattle.join.specs.declared.Taken.{Taken}
+use Rattle.join.specs.declared.Taken.TheVariants as taken
 use Rattle.join.specs.State.{State, view, state_of, sound}
 
 -- an answer, and the state after the call
@@ -69,33 +70,46 @@ close_call s stream =
 
 -- the pairs that wait
 abbrev pub waiting_in : State → List Pair
-waiting_in s = queue.waiting s.join.queue s.rows
+waiting_in s = queue.waiting s.queue
 
 -- below the clock of every open journal of the state
 abbrev pub ready_in : State → Pair → Bool
-ready_in s = queue.ready s.join.a.journal.gate s.join.b.journal.gate
+ready_in s = queue.ready s.a.journal.gate s.b.journal.gate
 
 -- the ready pairs, in their order
 abbrev pub ready_of : State → List Pair
 ready_of s = filter (ready_in s) (waiting_in s)
 
 -- both journals are closed
-abbrev pub both_closed : Join → Bool
-both_closed join = is_closed join.a.journal.gate && is_closed join.b.journal.gate
+abbrev pub both_closed : State → Bool
+both_closed s = is_closed s.a.journal.gate && is_closed s.b.journal.gate
+
+-- What a take answers: a pair, or Waiting or Finished, or a refusal with the number that the table gives.
+pub data Took : Type 0 where
+  Handed : Pair → Took
+  Waiting : Took
+  Finished : Took
+  Refused : ℕ → Took
+
+-- the answer that a result is
+abbrev pub took_of : Result Taken Refusal → Took
+took_of (Ok (taken.Handed p)) = Handed p
+took_of (Ok taken.Waiting) = Waiting
+took_of (Ok taken.Finished) = Finished
+took_of (Err refusal) = Refused (number_of refusal)
 
 -- A take hands out the first waiting pair if it is ready. With nothing ready it answers Finished when both journals are closed and nothing waits, else Waiting.
 abbrev pub next_of : (Pair → Bool) → Bool → List Pair → Took
 next_of ready closed [] = cond closed Finished Waiting
 next_of ready closed (p ∷ ps) = cond (ready p) (Handed p) Waiting
 
+-- the state with another queue
+abbrev pub with_queue : Queue → State → State
+with_queue queue s = record { rule = s.rule; a = s.a; b = s.b; queue = queue }
+
 -- the state without its first k waiting pairs
 unfoldable pub without : ℕ → State → State
-without k s = record {
-  join = record { rule = s.join.rule; a = s.join.a; b = s.join.b; queue = queue.queue_of (drop k (waiting_in s)) };
-  in_a = s.in_a;
-  in_b = s.in_b;
-  rows = queue.rows_of (drop k (waiting_in s));
-}
+without k s = with_queue (queue.queue_of (drop k (waiting_in s))) s
 
 -- Waiting, Finished and a refusal change nothing.
 abbrev pub after_take : Took → State → State
@@ -105,7 +119,7 @@ after_take Finished s = s
 after_take (Refused number) s = s
 
 abbrev pub take_on : State → Outcome Took
-take_on s = outcome (next_of (ready_in s) (both_closed s.join) (waiting_in s)) (after_take (next_of (ready_in s) (both_closed s.join) (waiting_in s)) s)
+take_on s = outcome (next_of (ready_in s) (both_closed s) (waiting_in s)) (after_take (next_of (ready_in s) (both_closed s) (waiting_in s)) s)
 
 unfoldable pub take_call : State → Outcome Took
 take_call s = cond (sound s) (take_on s) (outcome (Refused 8) s)

@@ -5,7 +5,7 @@ use mathlib.Core.Path.{◌≡◌}
 use borrow.Author.Tests.{leb-false, not-false}
 use Rattle.interval.specs.Interval.{proper_of}
 use Rattle.pairing.specs.declared.Entry.{Entry}
-use Rattle.journal.specs.declared.Answer.TheVariants.{Accepted}
+use Rattle.journal.specs.Answer.{Accepted}
 use Rattle.journal.specs.declared.Gate.{Gate}
 use Rattle.journal.specs.declared.Gate.TheVariants.{Open}
 use Rattle.journal.specs.declared.Journal.{Journal}

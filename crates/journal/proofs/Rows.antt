@@ -8,8 +8,7 @@ use Rattle.std.specs.List.{list_all}
 use Rattle.lists.specs.Check.{Check}
 use Rattle.lists.proofs.All.{All}
 use Rattle.lists.proofs.Bools.{and_left, and_right}
-use Rattle.journal.specs.declared.Answer.{Answer}
-use Rattle.journal.specs.declared.Answer.TheVariants.{Accepted, Refused}
+use Rattle.journal.specs.Answer.{Answer, Accepted, Refused}
 use Rattle.journal.specs.Answer.{number_of, first_of, unless_refused}
 
 -- where a call is accepted, no row applies

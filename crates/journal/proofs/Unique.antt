@@ -1,6 +1,7 @@
 -- The contract of each public function allows one result.
 use Rattle.unique.specs.Unique.{OneResult}
-use Rattle.unique.proofs.Equation.{one_by_equation}
+use Rattle.unique.proofs.Equation.{one_by_equation, one_by_reading}
+use Rattle.journal.proofs.Answers.{same_answer, same_mark}
 use Rattle.journal.proofs.Gate.wants.Reads as wants
 use Rattle.journal.proofs.Gate.passed.Reads as passed
 use Rattle.journal.proofs.Gate.reached.Reads as reached
@@ -37,7 +38,7 @@ one_with : OneResult with.Post
 one_with = one_by_equation _ _
 
 one_own_answer : OneResult own-answer.Post
-one_own_answer = one_by_equation _ _
+one_own_answer = one_by_reading _ _ _ (λ κs args x y e. same_answer x y e)
 
 one_mark : OneResult mark.Post
-one_mark = one_by_equation _ _
+one_mark = one_by_reading _ _ _ (λ κs args x y e. same_mark _ x y e)

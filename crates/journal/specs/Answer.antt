@@ -1,8 +1,17 @@
 -- What a call answers: Accepted, or a refusal with the number that the table gives.
-use Rattle.std.specs.Prelude.{ℕ, List}
+use Rattle.std.specs.Prelude.{ℕ, List, Result, Ok, Err}
 use Rattle.lists.specs.Check.{Check, first_or}
-use Rattle.journal.specs.declared.Answer.{Answer}
-use Rattle.journal.specs.declared.Answer.TheVariants.{Accepted, Refused}
+use Rattle.refusals.specs.declared.Refusal.{Refusal}
+use Rattle.refusals.specs.Table as table
+
+pub data Answer : Type 0 where
+  Accepted : Answer
+  Refused : ℕ → Answer
+
+-- the answer that a result is
+abbrev pub answer_of : Result (Unit {0}) Refusal → Answer
+answer_of (Ok done) = Accepted
+answer_of (Err refusal) = Refused (table.number_of refusal)
 
 -- the number of an answer, as the table has it; 0 where nothing is refused
 abbrev pub number_of : Answer → ℕ

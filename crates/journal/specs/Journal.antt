@@ -1,13 +1,14 @@
 -- Each journal is either open, with its clock, or closed.
-use Rattle.std.specs.Prelude.{ℕ, ◌+◌, Bool, true, false, not, ◌&&◌, List, [], ◌∷◌, ltb, leb}
+use Rattle.std.specs.Prelude.{ℕ, ◌+◌, Bool, true, false, not, ◌&&◌, List, [], ◌∷◌, ltb, leb, Result, Ok, Err}
 use Rattle.interval.specs.Interval.{proper_of}
 use Rattle.lists.specs.Check.{Check, ◌gives◌}
 use Rattle.pairing.specs.declared.Entry.{Entry}
 use Rattle.journal.specs.declared.Gate.{Gate}
 use Rattle.journal.specs.declared.Gate.TheVariants.{Open, Closed}
 use Rattle.journal.specs.declared.Journal.{Journal}
-use Rattle.journal.specs.declared.Marked.{Marked}
-use Rattle.journal.specs.Answer.{first_of, unless_refused}
+use Rattle.refusals.specs.declared.Refusal.{Refusal}
+use Rattle.refusals.specs.Table.{number_of}
+use Rattle.journal.specs.Answer.{Answer, Accepted, Refused, first_of, unless_refused}
 
 -- An entry is wanted while the other journal is open and the entry's end is above the other journal's clock.
 abbrev pub wanted : Gate → Entry → Bool
@@ -67,6 +68,16 @@ own_rows j e =
 -- a mark on a journal alone follows 2, then 4
 abbrev pub mark_rows : ℕ → Journal → List Check
 mark_rows time j = (is_closed j.gate gives 2) ∷ (is_behind j.gate time gives 4) ∷ []
+
+-- what a mark is answered, and the journal after it
+pub record Marked : Type 0 where
+  pub answer : Answer
+  pub journal : Journal
+
+-- the mark that a result is: a refused one leaves the journal as it stood
+abbrev pub marked_from : Journal → Result Journal Refusal → Marked
+marked_from before (Ok after) = record { answer = Accepted; journal = after }
+marked_from before (Err refusal) = record { answer = Refused (number_of refusal); journal = before }
 
 abbrev pub marked : ℕ → Journal → Marked
 marked time j = record { answer = first_of (mark_rows time j); journal = unless_refused (first_of (mark_rows time j)) (moved (Open time) j) j }

@@ -2,38 +2,24 @@
 #![tactic(auto)]
 
 ghost use Rattle.std.specs.Prelude.{◌≡◌, ◌<◌};
-ghost use Rattle.journal.specs.Answer.{first_of};
-ghost use Rattle.journal.specs.Journal.{entries, wanted, below, not_past, is_closed, is_behind, fresh_journal, moved, entered, own_rows, marked};
+ghost use Rattle.journal.specs.Answer.{answer_of, first_of};
+ghost use Rattle.journal.specs.Journal.{entries, wanted, below, not_past, is_closed, is_behind, fresh_journal, moved, entered, own_rows, marked, marked_from};
 
 use pairing::Entry;
+use refusals::Refusal;
 
 // Open, with the clock before which no later entry starts; or closed.
-#[derive(Clone, Copy)]
+#[derive(Clone, Copy, Debug, PartialEq, Eq)]
 pub enum Gate {
     Open(u32),
     Closed,
 }
 
 // One of the two journals. Its entries are kept elsewhere.
-#[derive(Clone, Copy)]
+#[derive(Clone, Copy, Debug, PartialEq, Eq)]
 pub struct Journal {
     pub gate: Gate,
     pub accepted: u32,
-}
-
-// What a call answers.
-#[derive(Clone, Copy)]
-pub enum Answer {
-    Accepted,
-    // With the number that the table of refusals gives.
-    Refused(u32),
-}
-
-// A journal after a mark, and what the mark was answered.
-#[derive(Clone, Copy)]
-pub struct Marked {
-    pub answer: Answer,
-    pub journal: Journal,
 }
 
 impl Gate {
@@ -71,10 +57,7 @@ impl Gate {
     pub fn closed(self) -> bool
         ensures { result ≡ is_closed self }
     {
-        match self {
-            Gate::Open(_) => false,
-            Gate::Closed => true,
-        }
+        matches!(self, Gate::Closed)
     }
 
     // Is the time below the clock, so that a start or a mark there breaks a promise?
@@ -105,10 +88,7 @@ impl Journal {
     pub fn to(self, gate: Gate) -> Journal
         ensures { result ≡ moved gate self }
     {
-        Journal {
-            gate,
-            accepted: self.accepted,
-        }
+        Journal { gate, ..self }
     }
 
     // The journal with one more accepted entry.
@@ -123,46 +103,35 @@ impl Journal {
     }
 
     // What the journal alone answers an entry: whether it is open, what the entry's times are, and how many it has accepted.
-    pub fn own_answer(self, e: Entry) -> Answer
-        ensures { result ≡ first_of (own_rows self e) }
+    #[tactic(auto, unfolding(crate::specs::Journal::own_rows))]
+    pub fn own_answer(self, e: Entry) -> Result<(), Refusal>
+        ensures { answer_of result ≡ first_of (own_rows self e) }
     {
-        let gate = self.gate;
-        if gate.closed() {
-            return Answer::Refused(refusals::CLOSED);
+        if self.gate.closed() {
+            return Err(Refusal::Closed);
         }
         if !e.span.proper() {
-            return Answer::Refused(refusals::IMPROPER);
+            return Err(Refusal::Improper);
         }
-        if gate.behind(e.span.start) {
-            return Answer::Refused(refusals::BEHIND);
+        if self.gate.behind(e.span.start) {
+            return Err(Refusal::Behind);
         }
         if Journal::ENTRIES <= self.accepted {
-            return Answer::Refused(refusals::SPENT);
+            return Err(Refusal::Spent);
         }
-        Answer::Accepted
+        Ok(())
     }
 
-    // A mark: refused with 2 where the journal is closed, with 4 where the time is below its clock.
-    pub fn mark(self, time: u32) -> Marked
-        ensures { result ≡ marked time self }
+    // The journal after a mark: refused with 2 where the journal is closed, with 4 where the time is below its clock.
+    pub fn mark(self, time: u32) -> Result<Journal, Refusal>
+        ensures { marked_from self result ≡ marked time self }
     {
-        let gate = self.gate;
-        if gate.closed() {
-            return Marked {
-                answer: Answer::Refused(refusals::CLOSED),
-                journal: self,
-            };
+        if self.gate.closed() {
+            return Err(Refusal::Closed);
         }
-        if gate.behind(time) {
-            return Marked {
-                answer: Answer::Refused(refusals::BEHIND),
-                journal: self,
-            };
+        if self.gate.behind(time) {
+            return Err(Refusal::Behind);
         }
-        let journal = self.to(Gate::Open(time));
-        Marked {
-            answer: Answer::Accepted,
-            journal,
-        }
+        Ok(self.to(Gate::Open(time)))
     }
 }

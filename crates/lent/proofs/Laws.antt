@@ -1,34 +1,31 @@
 -- Laws of the two services.
-use Prim.Native.Nat.{ℕ, ◌+◌, ◌≤◌, ◌<◌, min}
-use mathlib.Core.Bool.{Bool, true, false, not, false≢true}
-use mathlib.Core.List.{List}
+use Prim.Native.Nat.{ℕ, zero, suc, min}
+use native.Mathlib.Nat.{zero-min, min-zero, suc-min-suc}
+use mathlib.Core.Bool.{Bool, true, false, false≢true}
+use mathlib.Core.List.{List, [], ◌∷◌}
 use mathlib.Core.Path.{◌≡◌, sym, ap, ◌∙◌}
-use lib.Dec.{T as Holds}
-use lib.Ieee.Bits.{is_true, is_false}
-use lib.ListN.{length, take, get_or, length-map}
-use lib.Seq.{take_all}
+use lib.ListN.{length, take, length-map}
 use Rattle.interval.specs.Interval.{proper_of}
-use Rattle.std.specs.Prelude.{filter}
-use Rattle.lists.specs.Store.{Rows}
+use Rattle.std.specs.Prelude.{filter, Result, Ok, Err}
 use Rattle.lists.proofs.All.{all_any}
 use Rattle.lists.proofs.Bools.{bool_ext}
-use Rattle.lists.proofs.Keep.{keep_none, keep_keep, kept_more, kept_same, keep_bound, keep_map}
+use Rattle.lists.proofs.Keep.{keep_none, keep_keep, keep_map}
 use Rattle.pairing.specs.declared.Entry.{Entry}
 use Rattle.pairing.specs.declared.Numbered.{Numbered}
 use Rattle.pairing.specs.declared.Rule.{Rule}
 use Rattle.pairing.specs.Pair.{pairs}
 use Rattle.pairing.specs.Rule.{allows}
 use Rattle.pairing.proofs.Pairs.{pairs_comm, pairs_proper, pairs_allows}
-use Rattle.journal.specs.declared.Answer.{Answer}
-use Rattle.journal.specs.declared.Answer.TheVariants.{Accepted, Refused}
 use Rattle.journal.specs.declared.Gate.TheVariants.{Open}
 use Rattle.journal.specs.declared.Journal.{Journal}
-use Rattle.journal.specs.Answer.{unless_refused}
+use Rattle.journal.specs.Answer.{Answer, Accepted, Refused, unless_refused}
 use Rattle.journal.specs.Journal.{moved, marked}
 use Rattle.area.specs.declared.Area.{Area}
 use Rattle.area.specs.Area.{places, held, partners}
-use Rattle.area.proofs.Laws.{held_within}
-use Rattle.lent.specs.Counted.{answered, counted, entries_of}
+use Rattle.refusals.specs.declared.Refusal.{Refusal}
+use Rattle.refusals.specs.Table.{number_of}
+use Rattle.refusals.proofs.Numbers.{same_number}
+use Rattle.lent.specs.Counted.{answered, counted, counted_as, entries_of}
 
 -- ---- the count
 
@@ -54,24 +51,12 @@ counted_none rule given run barred =
 pub counted_comm : (rule : Rule) (given : Entry) (run : List Entry) → counted rule given run ≡ answered given (length (filter (λ (e : Entry). pairs rule e given) run))
 counted_comm rule given run = ap (λ (test : Entry → Bool). answered given (length (filter test run))) (λ i e. pairs_comm rule given e i)
 
--- ---- the count as it goes
-
-module _ (rule : Rule) (given : Entry) (run : List Entry) where
-  -- what is found among the first i
-  abbrev pub found : ℕ → ℕ
-  found i = length (filter (pairs rule given) (take i run))
-
-  pub found_more : (i : ℕ) (d : Entry) → i < length run → Holds (pairs rule given (get_or run i d)) → found i + 1 ≡ found (i + 1)
-  found_more i d h t = kept_more (pairs rule given) run i d h (is_true _ t)
-
-  pub found_same : (i : ℕ) (d : Entry) → i < length run → Holds (not (pairs rule given (get_or run i d))) → found i ≡ found (i + 1)
-  found_same i d h t = kept_same (pairs rule given) run i d h (is_false _ t)
-
-  pub found_few : (i : ℕ) → found i ≤ i
-  found_few i = keep_bound (pairs rule given) run i
-
-  pub found_all : (i : ℕ) → length run ≤ i → found i ≡ length (filter (pairs rule given) run)
-  found_all i h = ap (λ (l : List Entry). length (filter (pairs rule given) l)) (take_all i run h)
+-- a result is told by the count that it is
+pub same_count : (x y : Result ℕ Refusal) → counted_as x ≡ counted_as y → x ≡ y
+same_count (Ok m) (Ok n) e = cc
+same_count (Ok m) (Err s) e = cc
+same_count (Err r) (Ok n) e = cc
+same_count (Err r) (Err s) e = let n : number_of r ≡ number_of s = cc in let same : r ≡ s = same_number r s n in cc
 
 -- ---- the count over what an area holds
 
@@ -81,11 +66,16 @@ counted_held rule given xs =
     let entry_of : Numbered → Entry = λ x. x.entry in
     ap (answered given) (ap length (keep_map (pairs rule given) entry_of xs) ∙ length-map (partners rule given xs) entry_of)
 
+take_min : {A : Type 0} (n : ℕ) (l : List A) → take (min n (length l)) l ≡ take n l
+take_min zero l = ap (λ (m : ℕ). take m l) (zero-min (length l))
+take_min (suc n) [] = ap (λ (m : ℕ). take m []) (min-zero (suc n))
+take_min (suc n) (x ∷ l) = ap (λ (m : ℕ). take m (x ∷ l)) (suc-min-suc n (length l)) ∙ ap (λ r. x ∷ r) (take_min n l)
+
 -- also where the area's count is beyond its places: it then holds what is in all of them
-pub counted_within : (rule : Rule) (given : Entry) (area : Area) (rows : Rows) (n : ℕ) → length rows ≡ places → n ≡ min area.count places
-    → answered given (length (partners rule given (held (record { count = n }) rows))) ≡ counted rule given (entries_of (held area rows))
-counted_within rule given area rows n full e =
-    ap (λ (xs : List Numbered). answered given (length (partners rule given xs))) (held_within area rows n full e) ∙ sym (counted_held rule given (held area rows))
+pub counted_within : (rule : Rule) (given : Entry) (area : Area) (n : ℕ) → length area.places ≡ places → n ≡ min area.count places
+    → answered given (length (partners rule given (held (record { count = n; places = area.places })))) ≡ counted rule given (entries_of (held area))
+counted_within rule given area n full e =
+    ap (λ (xs : List Numbered). answered given (length (partners rule given xs))) (ap (λ (k : ℕ). take k area.places) (e ∙ ap (min area.count) (sym full)) ∙ take_min area.count area.places) ∙ sym (counted_held rule given (held area))
 
 -- ---- the mark
 

@@ -1,13 +1,23 @@
 -- A count of partners over a lent run of entries, which keeps nothing.
-use Rattle.std.specs.Prelude.{ℕ, cond, List, map, length}
+use Rattle.std.specs.Prelude.{ℕ, cond, List, map, length, Result, Ok, Err}
 use Rattle.interval.specs.Interval.{proper_of}
 use Rattle.std.specs.Prelude.{filter}
 use Rattle.pairing.specs.declared.Entry.{Entry}
 use Rattle.pairing.specs.declared.Numbered.{Numbered}
 use Rattle.pairing.specs.declared.Rule.{Rule}
 use Rattle.pairing.specs.Pair.{pairs}
-use Rattle.lent.specs.declared.Counted.{Counted}
-use Rattle.lent.specs.declared.Counted.TheVariants.{Partners, Refused}
+use Rattle.refusals.specs.declared.Refusal.{Refusal}
+use Rattle.refusals.specs.Table.{number_of}
+
+-- What a count answers: how many, or a refusal with the number that the table gives.
+pub data Counted : Type 0 where
+  Partners : ℕ → Counted
+  Refused : ℕ → Counted
+
+-- the answer that a result is
+abbrev pub counted_as : Result ℕ Refusal → Counted
+counted_as (Ok found) = Partners found
+counted_as (Err refusal) = Refused (number_of refusal)
 
 -- An improper given one is refused with 3. Else the answer is how many were found.
 abbrev pub answered : Entry → ℕ → Counted

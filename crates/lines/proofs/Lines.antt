@@ -1,11 +1,12 @@
 -- Laws of `line`: a line field by field, and how long it is.
-use Prim.Native.Nat.{ℕ, suc, ◌+◌, ◌*◌, ◌≤◌, ◌<◌}
+use Prim.Native.Nat.{ℕ, suc, ◌+◌, ◌-◌, ◌*◌, ◌≤◌, ◌<◌}
+use Rattle.std.proofs.lemmas.List.{get_or-take}
 use native.Mathlib.Numerals.{add-one}
 use native.Mathlib.Omega.{arith}
 use mathlib.Core.List.{List, [], ◌∷◌, ◌++◌, append_assoc}
 use mathlib.Core.Path.{◌≡◌, refl, sym, ap, ◌∙◌}
 use lib.Dec.{lit<}
-use lib.ListN.{length, drop, get_or, length-append}
+use lib.ListN.{length, take, drop, get_or, length-append, length-take}
 use lib.Seq.{drop-cons, drop-length}
 use Rattle.lists.specs.Put.{put}
 use Rattle.lists.proofs.All.{All}
@@ -30,18 +31,23 @@ line_more n m ns = sym (append_assoc (decimal n) (32 ∷ []) (line (m ∷ ns)))
 pub line_two : (n m : ℕ) → line (n ∷ m ∷ []) ≡ (decimal n ++ (32 ∷ [])) ++ (decimal m ++ (10 ∷ []))
 line_two n m = line_more n m [] ∙ ap (λ (bs : List ℕ). (decimal n ++ (32 ∷ [])) ++ bs) (line_one m)
 
-module _ (row : List ℕ) (i : ℕ) where
-  pub line_from : i + 1 < length row → line (drop i row) ≡ (decimal (get_or row i 0) ++ (32 ∷ [])) ++ line (drop (i + 1) row)
-  line_from h =
-      rw (add-one, drop-cons row i 0 (omega arith), drop-cons row (suc i) 0 (omega arith)) (line_more (get_or row i 0) (get_or row (suc i) 0) (drop (suc (suc i)) row))
+-- from one of the numbers before the last on
+module _ (row : List ℕ) (i : ℕ) (h : i < length (take (length row - 1) row)) where
+  pub line_from : line (drop i row) ≡ (decimal (get_or (take (length row - 1) row) i 0) ++ (32 ∷ [])) ++ line (drop (i + 1) row)
+  line_from =
+      let before : i < length row - 1 = omega (arith, length-take (length row - 1) row) in
+      rw (get_or-take (length row - 1) row i 0 before, add-one, drop-cons row i 0 (omega arith), drop-cons row (suc i) 0 (omega arith)) (line_more (get_or row i 0) (get_or row (suc i) 0) (drop (suc (suc i)) row))
 
-  pub length_from : i + 1 < length row → length (line (drop i row)) ≡ length (decimal (get_or row i 0)) + 1 + length (line (drop (i + 1) row))
-  length_from h = ap length (line_from h) ∙ length_field (get_or row i 0) 32 (line (drop (i + 1) row))
+  pub length_from : length (line (drop i row)) ≡ length (decimal (get_or (take (length row - 1) row) i 0)) + 1 + length (line (drop (i + 1) row))
+  length_from = ap length line_from ∙ length_field (get_or (take (length row - 1) row) i 0) 32 (line (drop (i + 1) row))
 
-  pub line_from_last : length row ≡ i + 1 → line (drop i row) ≡ decimal (get_or row i 0) ++ (10 ∷ [])
-  line_from_last e =
-      let none : drop (suc i) row ≡ [] = ap (λ (k : ℕ). drop k row) (sym (add-one i) ∙ sym e) ∙ drop-length row in
-      ap line (drop-cons row i 0 (omega arith) ∙ ap (λ (ns : List ℕ). get_or row i 0 ∷ ns) none) ∙ line_one (get_or row i 0)
+-- from the last on
+pub line_last : (row : List ℕ) (i : ℕ) → 0 < length row → i ≡ length row - 1 → line (drop i row) ≡ decimal (get_or row (length row - 1) 0) ++ (10 ∷ [])
+line_last row i some e =
+    let k = length row - 1 in
+    let all : suc k ≡ length row = omega arith in
+    let none : drop (suc k) row ≡ [] = ap (λ (n : ℕ). drop n row) all ∙ drop-length row in
+    ap (λ (n : ℕ). line (drop n row)) e ∙ ap line (drop-cons row k 0 (omega arith) ∙ ap (λ (ns : List ℕ). get_or row k 0 ∷ ns) none) ∙ line_one (get_or row k 0)
 
 -- ---- how long it is
 

@@ -10,31 +10,20 @@ ghost use Rattle.lines.specs.Line.{line};
 pub const FIELD: usize = 11;
 
 // Some text into a buffer from a place on.
+#[tactic(auto, unfolding(lists::specs::Put::put))]
 pub fn put_text(out: &mut [u8], at: usize, text: &[u8])
     requires { at + length text.now ≤ length out.old }
     ensures { out.new ≡ put at text.now out.old }
 {
-    let mut i = 0;
-    while i < text.len() {
-        out[at + i] = text[i];
-        i += 1;
-    }
+    out[at..at + text.len()].copy_from_slice(text);
 }
 
 // How many digits a number has.
+#[tactic(auto, using(crate::proofs::Decimals::decimal_places, crate::proofs::Decimals::decimal_zero))]
 fn places(n: u64) -> usize
     ensures { result ≡ length (decimal n) }
 {
-    let mut k: usize = 1;
-    let mut limit: u64 = 10;
-    while limit <= n {
-        if k == 19 {
-            return 20;
-        }
-        limit *= 10;
-        k += 1;
-    }
-    k
+    n.checked_ilog10().map_or(1, |power| power as usize + 1)
 }
 
 // A number in decimal from a place on, and a byte behind it; answers the place behind both.
@@ -50,13 +39,13 @@ pub fn put_number(out: &mut [u8], at: usize, n: u64, after: u8) -> usize
     // Two digits a division, as dividing is the dear part; then the first, if it is left.
     while at + 1 < i {
         let two = rest % 100;
-        out[i - 1] = 48 + (two % 10) as u8;
-        out[i - 2] = 48 + (two / 10) as u8;
+        out[i - 1] = b'0' + (two % 10) as u8;
+        out[i - 2] = b'0' + (two / 10) as u8;
         i -= 2;
         rest /= 100;
     }
     if at < i {
-        out[at] = 48 + rest as u8;
+        out[at] = b'0' + rest as u8;
     }
     end + 1
 }
@@ -69,10 +58,8 @@ pub fn put_line(out: &mut [u8], at: usize, numbers: &[u64]) -> usize
 {
     let last = numbers.len() - 1;
     let mut next = at;
-    let mut i = 0;
-    while i < last {
-        next = put_number(out, next, numbers[i], b' ');
-        i += 1;
+    for n in &numbers[..last] {
+        next = put_number(out, next, *n, b' ');
     }
     put_number(out, next, numbers[last], b'\n')
 }

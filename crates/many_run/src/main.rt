@@ -6,13 +6,12 @@ ghost use Rattle.std.specs.Io.{ReadsAtMost};
 
 use feed_stream::step_on;
 use framing::Went;
-use join::Join;
 use pairing::Rule;
 use pipe::Flow;
 use std::io;
 use std::io::Read;
-use steps::{Counts, READ_LIMIT, ROOM};
-use whole_feed::{Printing, print_feed};
+use steps::{Progress, READ_LIMIT, ROOM};
+use whole_feed::print_feed;
 
 // No more feeds than this are joined.
 const FEEDS: usize = 1000000;
@@ -29,19 +28,11 @@ fn no_text() -> [u8; TEXT]
     [0; TEXT]
 }
 
-fn wide(b: u8) -> u32
-    ensures { result < 256 }
-{
-    b as u32
-}
-
 // The number in 4 bytes of a head from a place on, the least byte first.
 fn number_in(head: [u8; 12], at: usize) -> u32
     requires { at ≤ 8 }
 {
-    let low = wide(head[at]) + 256 * wide(head[at + 1]);
-    let high = wide(head[at + 2]) + 256 * wide(head[at + 3]);
-    low + 65536 * high
+    u32::from_le_bytes([head[at], head[at + 1], head[at + 2], head[at + 3]])
 }
 
 // The rule that a head names: 0 is equal keys, 1 near keys with a width, any other every couple.
@@ -70,54 +61,35 @@ fn put_pieces(rule: Rule, feed: &[u8], by_limit: bool, out: &mut [u8]) -> usize
     requires { (length feed.now ≤ 65536) × (length out.old ≤ 131072) }
     ensures { result ≤ length out.old }
 {
-    let mut a = area::no_places();
-    let mut b = area::no_places();
-    let mut rows = queue::no_places();
-    let mut join = Join::fresh(rule);
-    let mut counts = Counts {
-        records: 0,
-        pairs: 0,
-    };
+    let mut run = Progress::begun(rule);
     let mut flow = Flow::begun(limit_of(by_limit, feed.len()));
     while ROOM <= out.len() - flow.filled {
-        let ended = knows_end(by_limit, flow.end, feed.len());
-        flow.ended = ended;
-        let stepped = step_on(join, &mut a, &mut b, &mut rows, counts, flow, feed, out);
-        join = stepped.join;
-        counts = stepped.counts;
-        flow.left -= stepped.used;
-        flow.at += stepped.used;
-        flow.filled += stepped.filled;
-        let went = stepped.went;
-        match went {
+        flow.ended = knows_end(by_limit, flow.end, feed.len());
+        match step_on(&mut run, &flow, feed, out) {
             Went::More => {
                 if feed.len() <= flow.end {
                     return flow.filled;
                 }
                 flow.end += 1;
             }
-            Went::On => {}
-            Went::Ended => {
-                return flow.filled;
+            Went::On { used, filled } => {
+                flow.left -= used;
+                flow.at += used;
+                flow.filled += filled;
+            }
+            Went::Ended { filled } => {
+                return flow.filled + filled;
             }
         }
     }
     flow.filled
 }
 
-fn same(a: &[u8], b: &[u8]) -> bool {
-    a == b
-}
-
 // Joins a feed whole. Answers how many bytes were put out: none where they do not fit, which is not what must be printed.
 fn put_whole(rule: Rule, feed: &[u8], out: &mut [u8]) -> usize
     ensures { result ≤ length out.old }
 {
-    let printing = print_feed(rule, feed, out);
-    match printing {
-        Printing::Filled(size) => size,
-        Printing::TooShort => 0,
-    }
+    print_feed(rule, feed, out).unwrap_or(0)
 }
 
 // Prints what is printed of a feed, and says so where it is another text through windows.
@@ -134,7 +106,7 @@ fn print_both(
     let whole = put_whole(rule, feed, text);
     rt.write_all(&text[..whole])?;
     let put = put_pieces(rule, feed, by_limit, pieces);
-    if !same(&text[..whole], &pieces[..put]) {
+    if text[..whole] != pieces[..put] {
         rt.write_all(b"through windows it is another text\n")?;
     }
     Ok(())

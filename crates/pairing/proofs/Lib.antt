@@ -1,5 +1,6 @@
 pub mod Circle
 pub mod Pairs
+pub mod Rank
 pub mod Numbers
 pub mod Plain
 pub mod Arrival

@@ -3,10 +3,11 @@
 
 ghost use Rattle.std.specs.Prelude.{◌≡◌, ◌<◌};
 ghost use Rattle.pairing.specs.Pair.{pairs, partner_of, pair_of, comes_before};
-ghost use Rattle.pairing.specs.Rule.{whole_turn, difference, distance, allows, fits};
+ghost use Rattle.pairing.specs.Rule.{whole_turn, distance, allows, fits};
 ghost use Rattle.pairing.specs.Side.{pair_from};
 
-use interval::{Interval, larger, smaller};
+use interval::Interval;
+use std::fmt;
 
 // What a journal says from the start of the span up to its end.
 #[derive(Clone, Copy, Debug, Default, PartialEq, Eq)]
@@ -55,30 +56,25 @@ pub struct Pair {
     pub b: Partner,
 }
 
-// The larger key less the smaller: taken the other way round it would wrap.
-fn difference(key: u32, other: u32) -> u32
-    ensures { result ≡ difference key other }
-{
-    larger(key, other) - smaller(key, other)
-}
-
 // The distance of two angles: the smaller of the two ways round.
+#[tactic(auto, unfolding(crate::specs::Rule::difference, crate::specs::Rule::distance))]
 fn apart(key: u32, other: u32) -> u32
     requires { (key < whole_turn) × (other < whole_turn) }
     ensures { result ≡ distance key other }
 {
-    let one_way = difference(key, other);
-    let other_way = Rule::WHOLE_TURN - one_way;
-    smaller(one_way, other_way)
+    let one_way = key.abs_diff(other);
+    one_way.min(Rule::WHOLE_TURN - one_way)
 }
 
 // Is the distance of two keys at most the width? Keys are angles where the larger of them is; any others are not near, whatever the width.
+#[tactic(auto, using(crate::proofs::Circle::past_turn), unfolding(crate::specs::Rule::allows, crate::specs::Rule::fits))]
 fn near(width: u32, key: u32, other: u32) -> bool
     ensures { result ≡ fits (Rule.Near width) key other }
 {
-    larger(key, other) < Rule::WHOLE_TURN && apart(key, other) <= width
+    key.max(other) < Rule::WHOLE_TURN && apart(key, other) <= width
 }
 
+#[tactic(auto, unfolding(crate::specs::Rule::allows, crate::specs::Rule::fits, crate::specs::Pair::pairs))]
 impl Rule {
     // A near key is an angle in hundredths of a degree: so many are a whole turn.
     pub const WHOLE_TURN: u32 = 36_000;
@@ -109,17 +105,14 @@ impl Rule {
     pub fn pairs(self, a: Entry, b: Entry) -> bool
         ensures { result ≡ pairs self a b }
     {
-        if !a.span.proper() {
-            return false;
-        }
-        if !self.fits(a.key, b.key) {
-            return false;
-        }
-        let meeting = a.span.meeting(b.span);
-        meeting.proper() && b.span.proper()
+        a.span.proper()
+            && self.fits(a.key, b.key)
+            && a.span.meeting(b.span).proper()
+            && b.span.proper()
     }
 }
 
+#[tactic(auto, unfolding(crate::specs::Pair::partner_of))]
 impl Numbered {
     // What a pair carries of it.
     pub fn partner(self) -> Partner
@@ -133,32 +126,31 @@ impl Numbered {
     }
 }
 
+#[tactic(auto, unfolding(crate::specs::Pair::pair_of, crate::specs::Pair::comes_before))]
 impl Pair {
     // The pair of an A entry and a B entry.
     pub fn of(a: Numbered, b: Numbered) -> Pair
         ensures { result ≡ pair_of a b }
     {
-        let meeting = a.entry.span.meeting(b.entry.span);
-        let of_a = a.partner();
-        let of_b = b.partner();
         Pair {
-            meeting,
-            a: of_a,
-            b: of_b,
+            meeting: a.entry.span.meeting(b.entry.span),
+            a: a.partner(),
+            b: b.partner(),
         }
+    }
+
+    // What the plain list is in ascending order of: start, then A ordinal, then B ordinal.
+    fn rank(self) -> (u32, u32, u32)
+        ensures { result ≡ (self.meeting.start, self.a.ordinal, self.b.ordinal) }
+    {
+        (self.meeting.start, self.a.ordinal, self.b.ordinal)
     }
 
     // Does it come before the other in the plain list's order?
     pub fn comes_before(self, other: Pair) -> bool
         ensures { result ≡ comes_before self other }
     {
-        if self.meeting.start != other.meeting.start {
-            return self.meeting.start < other.meeting.start;
-        }
-        if self.a.ordinal != other.a.ordinal {
-            return self.a.ordinal < other.a.ordinal;
-        }
-        self.b.ordinal < other.b.ordinal
+        self.rank() < other.rank()
     }
 }
 
@@ -171,5 +163,12 @@ impl Side {
             Side::A => Pair::of(x, other),
             Side::B => Pair::of(other, x),
         }
+    }
+}
+
+// As its meeting and the ordinals of A and B.
+impl fmt::Display for Pair {
+    fn fmt<W: fmt::Write>(&self, f: &mut fmt::Formatter<W>) -> fmt::Result {
+        write!(f, "{} {}-{}", self.meeting, self.a.ordinal, self.b.ordinal)
     }
 }

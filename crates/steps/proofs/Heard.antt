@@ -6,7 +6,7 @@ use mathlib.Core.Path.{◌≡◌, refl, sym, ap, ◌∙◌}
 use borrow.Author.Tests.{ltb-true}
 use Rattle.pairing.specs.declared.Entry.{Entry}
 use Rattle.pairing.specs.declared.Side.{Side}
-use Rattle.journal.specs.declared.Answer.TheVariants.{Refused}
+use Rattle.journal.specs.Answer.{Refused}
 use Rattle.journal.specs.declared.Gate.TheVariants.{Open, Closed}
 use Rattle.journal.specs.Journal.{mark_rows}
 use Rattle.join.specs.State.{State, Sound, view, state_of}

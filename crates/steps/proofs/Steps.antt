@@ -10,8 +10,7 @@ use Rattle.lists.proofs.Keep.{keep_length}
 use Rattle.lists.proofs.Store.{content_length}
 use Rattle.pairing.specs.declared.Rule.{Rule}
 use Rattle.pairing.specs.Numbers.{pair_numbers, pair_in}
-use Rattle.journal.specs.declared.Answer.{Answer}
-use Rattle.journal.specs.declared.Answer.TheVariants.{Accepted, Refused}
+use Rattle.journal.specs.Answer.{Answer, Accepted, Refused}
 use Rattle.queue.specs.Queue as queue
 use Rattle.join.specs.State.{State, Sound}
 use Rattle.join.specs.Calls.{Outcome, outcome, waiting_in, ready_in, ready_of, without}

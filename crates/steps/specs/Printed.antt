@@ -4,20 +4,14 @@ use mathlib.Core.List.{List, [], ◌∷◌, ◌++◌, flat_map}
 use Rattle.pairing.specs.declared.Pair.{Pair}
 use Rattle.pairing.specs.declared.Rule.{Rule}
 use Rattle.pairing.specs.Numbers.{pair_numbers}
-use Rattle.journal.specs.declared.Answer.{Answer}
-use Rattle.journal.specs.declared.Answer.TheVariants.{Accepted, Refused}
+use Rattle.journal.specs.Answer.{Answer, Accepted, Refused}
 use Rattle.join.specs.State.{State, fresh_state}
 use Rattle.join.specs.Calls.{Outcome, outcome, entry_call, mark_call, close_call, ready_of, both_closed, without}
 use Rattle.feed.specs.declared.Record.{Record}
 use Rattle.feed.specs.declared.Record.TheVariants.{Entry, Mark, Close, Note}
+use Rattle.steps.specs.declared.Progress.{Progress}
 use Rattle.framing.specs.Program.{Deed, Ends, Goes, Program, printed_by}
 use Rattle.lines.specs.Line.{line}
-
--- Where a run stands: its join, how many records were accepted so far, notes included, and how many pair lines were printed.
-pub record Progress : Type 0 where
-  pub state : State
-  pub records : ℕ
-  pub pairs : ℕ
 
 -- at the start, by a rule; joinfeed joins by equal keys
 abbrev pub begun : Rule → Progress
@@ -44,7 +38,7 @@ refused_word = 114 ∷ 101 ∷ 102 ∷ 117 ∷ 115 ∷ 101 ∷ 100 ∷ 32 ∷ []
 
 -- Its last line is `done`, records, pairs; with `open` in place of `done` if the feed ends and a journal is open.
 unfoldable pub end_line : Progress → List ℕ
-end_line p = cond (both_closed p.state.join) done_word open_word ++ line (p.records ∷ p.pairs ∷ [])
+end_line p = cond (both_closed p.state) done_word open_word ++ line (p.records ∷ p.pairs ∷ [])
 
 -- Or `refused`, the number, records accepted before.
 unfoldable pub refused_line : ℕ → Progress → List ℕ

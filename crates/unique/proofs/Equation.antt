@@ -6,6 +6,12 @@ pub one_by_equation : {Lifetimes : Type 0} {Args Result : Lifetimes → Type 0} 
     → OneResult {Left = Left} (λ κs args result left. result ≡ definition κs args)
 one_by_equation Left definition κs args x y left other p q = p ∙ sym q
 
+-- the same where the result is read as something else, if no two results are read alike
+pub one_by_reading : {Lifetimes Seen : Type 0} {Args Result : Lifetimes → Type 0} (Left : Lifetimes → Type 0) (seen : (κs : Lifetimes) → Args κs → Result κs → Seen) (definition : (κs : Lifetimes) → Args κs → Seen)
+    → ((κs : Lifetimes) (args : Args κs) (x y : Result κs) → seen κs args x ≡ seen κs args y → x ≡ y)
+    → OneResult {Left = Left} (λ κs args result left. seen κs args result ≡ definition κs args)
+one_by_reading Left seen definition apart κs args x y left other p q = apart κs args x y (p ∙ sym q)
+
 pub outcome_by_equation : {Lifetimes Seen : Type 0} {Args Result Left : Lifetimes → Type 0} (seen : (κs : Lifetimes) → Result κs → Left κs → Seen) (definition : (κs : Lifetimes) → Args κs → Seen)
     → OneOutcome seen (λ κs args result left. seen κs result left ≡ definition κs args)
 outcome_by_equation seen definition κs args x y left other p q = p ∙ sym q

@@ -1,10 +1,18 @@
 -- What printing a feed into a lent buffer answers, and what it leaves there.
-use Rattle.std.specs.Prelude.{ℕ, cond, List, leb, length}
+use Rattle.std.specs.Prelude.{ℕ, cond, List, leb, length, Option, Some, None}
 use Rattle.lists.specs.Put.{put}
 use Rattle.pairing.specs.declared.Rule.{Rule}
 use Rattle.steps.specs.Printed.{printed, read_limit}
-use Rattle.whole_feed.specs.declared.Printing.{Printing}
-use Rattle.whole_feed.specs.declared.Printing.TheVariants.{Filled, TooShort}
+
+-- how many bytes of the buffer the text fills, or that the text has more than the buffer
+pub data Printing : Type 0 where
+  Filled : ℕ → Printing
+  TooShort : Printing
+
+-- the answer that an option is
+abbrev pub printing_of : Option ℕ → Printing
+printing_of (Some size) = Filled size
+printing_of None = TooShort
 
 -- the answer, and the buffer after it
 pub record Printout : Type 0 where

@@ -1,8 +1,9 @@
--- `partner_count` meets its contract. While it runs, it has found those of the first i entries that pair with the given one, so no more than i.
-use native.Mathlib.Omega.{arith}
-use Rattle.lent.proofs.Laws.{found_few}
+-- No more are found than entries were looked at.
+use Rattle.std.proofs.Common.{arith}
+use Rattle.lists.proofs.Keep.{keep_bound}
+use Rattle.pairing.specs.Pair.{pairs}
 use Rattle.lent.proofs.partner_count.Goals as goal
 
 pub overflow_add-found : goal.overflow_add-found
 overflow_add-found c =
-    omega (arith, c.loop-i.invariant.1, found_few c.args.rule c.args.given c.args.run.now c.loop-i.i)
+    record { fits = omega (arith, keep_bound (pairs c.args.rule c.args.given) c.args.run.now c.loop-e.e-index) }

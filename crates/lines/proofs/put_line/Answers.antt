@@ -2,49 +2,38 @@
 use Prim.Native.Nat.{ℕ, ◌+◌, ◌-◌}
 use native.Mathlib.Omega.{arith}
 use mathlib.Core.List.{List}
-use mathlib.Core.Path.{◌≡◌, refl, sym, ap, ◌∙◌}
-use lib.ListN.{length, drop, get_or, length-append}
+use mathlib.Core.Path.{sym, ap, ◌∙◌}
+use lib.ListN.{length, take, drop, get_or, length-append, length-take}
 use Rattle.lists.specs.Put.{put}
 use Rattle.lines.specs.Line.{line}
-use Rattle.lines.proofs.Lines.{line_from, length_from, line_from_last, field_then}
+use Rattle.lines.proofs.Lines.{line_from, length_from, line_last, field_then}
 use Rattle.lines.proofs.put_line.Goals as goal
-
-pub loop-i-init : goal.loop-i-init
-loop-i-init c = (omega arith, refl, refl, refl)
 
 pub put_number-next-requires : goal.put_number-next-requires
 put_number-next-requires c =
-    let numbers = c.args.numbers.now in
-    omega (arith, length_from numbers c.loop-i.i (omega arith))
+    omega (arith, length_from c.args.numbers.now c.loop-n.n-index c.loop-n-test.true)
 
-pub loop-i-preserved : goal.loop-i-preserved
-loop-i-preserved c =
+pub loop-n-preserved : goal.loop-n-preserved
+loop-n-preserved c =
     let numbers = c.args.numbers.now in
-    let at-loop = c.loop-i in
-    let field = c.put_number-next in
-    let long = length_from numbers at-loop.i (omega arith) in (
+    let at-loop = c.loop-n in
+    let i = at-loop.n-index in
+    let field = c.put_number-next.ensures in
+    let long = length_from numbers i c.loop-n-test.true in (
       omega arith,
-      omega arith,
-      field_then at-loop.next (get_or numbers at-loop.i 0) 32 (line (drop (at-loop.i + 1) numbers)) at-loop.out field.ensures.value field.ensures.out_after (omega arith)
-          ∙ ap (λ (bs : List ℕ). put at-loop.next bs at-loop.out) (sym (line_from numbers at-loop.i (omega arith)))
-          ∙ at-loop.invariant.2,
-      omega arith,
+      field_then at-loop.next (get_or (take (length numbers - 1) numbers) i 0) 32 (line (drop (i + 1) numbers)) at-loop.out field.value field.out_after (omega arith)
+          ∙ ap (λ (bs : List ℕ). put at-loop.next bs at-loop.out) (sym (line_from numbers i c.loop-n-test.true))
+          ∙ at-loop.invariant.1,
     )
 
 pub put_number-requires : goal.put_number-requires
 put_number-requires c =
-    let numbers = c.args.numbers.now in
-    let at-loop = c.loop-i in
-    let end : at-loop.i ≡ length numbers - 1 = omega arith in
-    let e = ap (λ (k : ℕ). line (drop k numbers)) end ∙ line_from_last numbers (length numbers - 1) (omega arith) in
+    let e = line_last c.args.numbers.now c.loop-n.n-index (omega arith) (omega (arith, length-take {A = ℕ})) in
     omega (arith, simp length-append at (ap length e))
 
 pub returns : goal.returns
 returns c =
-    let numbers = c.args.numbers.now in
-    let at-loop = c.loop-i in
-    let field = c.put_number in
-    let end : at-loop.i ≡ length numbers - 1 = omega arith in
-    let e = ap (λ (k : ℕ). line (drop k numbers)) end ∙ line_from_last numbers (length numbers - 1) (omega arith) in
+    let at-loop = c.loop-n in
+    let e = line_last c.args.numbers.now at-loop.n-index (omega arith) (omega (arith, length-take {A = ℕ})) in
     let long = simp length-append at (ap length e) in
-    record { value = omega arith; out_after = field.ensures.out_after ∙ ap (λ (bs : List ℕ). put at-loop.next bs at-loop.out) (sym e) ∙ at-loop.invariant.2 }
+    record { value = omega arith; out_after = c.put_number.ensures.out_after ∙ ap (λ (bs : List ℕ). put at-loop.next bs at-loop.out) (sym e) ∙ at-loop.invariant.1 }

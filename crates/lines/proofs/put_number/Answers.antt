@@ -80,47 +80,35 @@ pub loop-i-init : goal.loop-i-init
 loop-i-init c =
     let a = c.args in
     let all : a.at + c.places.result - a.at ≡ length (decimal a.n) = omega arith in
-    (omega arith, omega arith, refl, refl, subst (λ (j : ℕ). a.n < 10 ^ j) (sym all) (decimal_below a.n (omega arith)))
-
-pub bounds-out-i : goal.bounds-out-i
-bounds-out-i c = let long = simp length-set at c.loop-i.invariant.3 in omega arith
-
-pub bounds-out-i-in-loop-i : goal.bounds-out-i-in-loop-i
-bounds-out-i-in-loop-i c = let long = simp length-set at c.loop-i.invariant.3 in simp length-set (omega arith)
+    (omega arith, omega arith, refl, subst (λ (j : ℕ). a.n < 10 ^ j) (sym all) (decimal_below a.n (omega arith)))
 
 pub loop-i-preserved : goal.loop-i-preserved
 loop-i-preserved c =
-    let at-loop = c.loop-i in
-    let long = simp length-set at at-loop.invariant.3 in (
+    let at-loop = c.loop-i in (
       omega arith,
       omega arith,
-      two-put c.args.at at-loop.i at-loop.rest at-loop.out (omega arith) (omega arith) ∙ at-loop.invariant.2,
-      simp length-set long,
-      two-fewer c.args.at at-loop.i at-loop.rest (omega arith) at-loop.invariant.4,
+      two-put c.args.at at-loop.i at-loop.rest at-loop.out (omega arith) (omega (arith, length-set {A = ℕ})) ∙ at-loop.invariant.2,
+      two-fewer c.args.at at-loop.i at-loop.rest (omega arith) at-loop.invariant.3,
     )
 
 pub overflow_cast-out-then-at-i : goal.overflow_cast-out-then-at-i
 overflow_cast-out-then-at-i c =
     let at-loop = c.loop-i in
-    let one = one_left c.args.at at-loop.i at-loop.rest (omega arith) (omega arith) at-loop.invariant.4 in
+    let one = one_left c.args.at at-loop.i at-loop.rest (omega arith) (omega arith) at-loop.invariant.3 in
     record { fits = omega arith }
 
 pub overflow_add-out-then-at-i : goal.overflow_add-out-then-at-i
 overflow_add-out-then-at-i c =
     let at-loop = c.loop-i in
-    let one = one_left c.args.at at-loop.i at-loop.rest (omega arith) (omega arith) at-loop.invariant.4 in
+    let one = one_left c.args.at at-loop.i at-loop.rest (omega arith) (omega arith) at-loop.invariant.3 in
     record { fits = omega arith }
-
-pub bounds-out-at : goal.bounds-out-at
-bounds-out-at c = let long = simp length-set at c.loop-i.invariant.3 in omega arith
 
 pub returns-clause-out_after : goal.returns-clause-out_after
 returns-clause-out_after c =
     let a = c.args in
     let at-loop = c.loop-i in
     let end = a.at + c.places.result in
-    let long = simp length-set at at-loop.invariant.3 in
     elim c.if-at-i.branch [
-      | then-at-i w ↦ w.out-is ∙ digit-left a.at end a.n a.after a.out.now at-loop.i at-loop.rest at-loop.out (omega (arith, w.if-at-i.true)) (omega arith) (omega arith) (omega arith) (one_left a.at at-loop.i at-loop.rest (omega (arith, w.if-at-i.true)) (omega arith) at-loop.invariant.4) at-loop.invariant.2
+      | then-at-i w ↦ w.out-is ∙ digit-left a.at end a.n a.after a.out.now at-loop.i at-loop.rest at-loop.out (omega (arith, w.if-at-i.true)) (omega (arith, length-set {A = ℕ})) (omega arith) (omega arith) (one_left a.at at-loop.i at-loop.rest (omega (arith, w.if-at-i.true)) (omega arith) at-loop.invariant.3) at-loop.invariant.2
       | else-at-i w ↦ w.out-is ∙ digits-put a.at end a.n a.after a.out.now at-loop.i at-loop.rest (omega (arith, w.if-at-i.false)) (omega arith) (omega arith) at-loop.invariant.2
     ]

@@ -3,8 +3,7 @@ use native.Mathlib.Omega.{arith}
 use Prim.Native.Nat.{ℕ}
 use mathlib.Core.Bool.{true}
 use mathlib.Core.Path.{◌≡◌, refl, sym, ap, subst, ◌∙◌}
-use Rattle.journal.specs.declared.Answer.{Answer}
-use Rattle.journal.specs.declared.Answer.TheVariants.{Accepted, Refused}
+use Rattle.journal.specs.Answer.{Answer, Accepted, Refused}
 use Rattle.join.specs.State.{Sound, state_with}
 use Rattle.join.specs.Calls.{Outcome, outcome}
 use Rattle.join.proofs.Laws.{sound_order}

@@ -1,6 +1,0 @@
--- `passed` meets its contract: an open journal compares its clock, a closed one sets no limit.
-
-use Rattle.journal.proofs.Gate.passed.Goals as goal
-
-pub returns-in-Open : goal.returns-in-Open
-returns-in-Open c = rw c.in-Open.is
