@@ -19,7 +19,7 @@ pub enum Went {
 }
 
 // Does a window show all that can matter to the record that stands first in it?
-#[tactic(auto, using(crate::proofs::Telling::told_by_end, crate::proofs::Telling::told_by_limit, crate::proofs::Telling::told_by_length, crate::proofs::Telling::told_by_record))]
+#[tactic(auto, using(feed::proofs::Locality::long_shows), unfolding(crate::specs::Shown::tells))]
 pub fn tells(left: usize, window: &[u8], ended: bool) -> bool
     ensures { result ≡ tells left window.now ended }
 {
