@@ -18,7 +18,7 @@ one_shows : OneResult shows.Post
 one_shows = one_by_equation _ _
 
 -- a reading tells its answer
-same_reading : {R : Type 0} (x y : Result (Option (FoundAt R)) Misread) → reading_seen x ≡ reading_seen y → x ≡ y
+pub same_reading : {R : Type 0} (x y : Result (Option (FoundAt R)) Misread) → reading_seen x ≡ reading_seen y → x ≡ y
 same_reading (Ok (Some f)) (Ok (Some g)) e =
     let what : f.found ≡ g.found = cc in
     let next : f.next ≡ g.next = cc in

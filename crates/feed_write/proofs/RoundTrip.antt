@@ -10,13 +10,10 @@ use lib.ListN.{length, drop, take}
 use borrow.Author.Tests.{ltb-false}
 use Rattle.lists.specs.Check.{◌gives◌, first_or}
 use Rattle.lists.specs.Put.{put}
-use Rattle.feed.specs.declared.PairReading.TheVariants.{Found as FoundPair}
-use Rattle.feed_write.specs.declared.Writing.{Writing}
-use Rattle.feed_write.specs.declared.Writing.TheVariants.{Written, Refused}
 use Rattle.feed.specs.Record.{record_bytes, pair_bytes, stream_known}
-use Rattle.feed.specs.Reading.{pair_reading}
+use Rattle.feed.specs.Reading.{Found, pair_reading}
 use Rattle.feed.specs.Text.{text_bytes, ReadsAs}
-use Rattle.feed_write.specs.Writing.{writing, record_writing, pair_writing}
+use Rattle.feed_write.specs.Writing.{Writing, Written, Refused, writing, record_writing, pair_writing}
 use Rattle.feed_write.specs.RoundTrip.{WrittenReads, PairWrittenReads, ReadWrites, PairReadWrites}
 use Rattle.lists.proofs.Put.{put_first}
 use Rattle.feed_write.proofs.Writings.{record_written, pair_written}
@@ -49,14 +46,14 @@ unfolding pair_writing writing
 pair_written_reads p buf left size fit h = go (ltb (length buf) (length (pair_bytes p))) h
   where
     go : (short : Bool) → ◌≡◌ {A = Writing × List ℕ} (first_or (λ (number : ℕ). (Refused number, buf)) (Written (length (pair_bytes p)), pair_bytes p ++ drop (length (pair_bytes p)) buf) ((short gives 12) ∷ [])) (Written size, left)
-        → pair_reading left 0 ≡ FoundPair p size
+        → pair_reading left 0 ≡ Found p size
     go true e = absurd (not_written e)
     go false e =
         let answer : Written (length (pair_bytes p)) ≡ Written size = ap (λ (x : Writing × List ℕ). x.0) e in
         let same : length (pair_bytes p) ≡ size = cc in
         ap (λ (l : List ℕ). pair_reading l 0) (sym (ap (λ (x : Writing × List ℕ). x.1) e))
         ∙ pair_reads_in p [] (drop (length (pair_bytes p)) buf) fit
-        ∙ ap (FoundPair p) (zero-add (length (pair_bytes p)) ∙ same)
+        ∙ ap (Found p) (zero-add (length (pair_bytes p)) ∙ same)
 
 -- ---- read, then written
 

@@ -1,11 +1,20 @@
 -- Writing starts at the buffer's first byte and touches no byte past the record; it answers the record's whole length, the two length bytes included. A refusal returns its number, and the buffer holds what it held.
-use Rattle.std.specs.Prelude.{ℕ, not, List, [], ◌∷◌, ◌++◌, length, drop, ltb}
+use Rattle.std.specs.Prelude.{ℕ, not, Result, Ok, Err, List, [], ◌∷◌, ◌++◌, length, drop, ltb}
 use Rattle.lists.specs.Check.{Check, ◌gives◌, first_or}
 use Rattle.pairing.specs.declared.Pair.{Pair}
 use Rattle.feed.specs.declared.Record.{Record}
-use Rattle.feed_write.specs.declared.Writing.{Writing}
-use Rattle.feed_write.specs.declared.Writing.TheVariants.{Written, Refused}
+use Rattle.refusals.specs.declared.Refusal.{Refusal}
+use Rattle.refusals.specs.Table.{number_of}
 use Rattle.feed.specs.Record.{record_bytes, pair_bytes, stream_known}
+
+pub data Writing : Type 0 where
+  Written : ℕ → Writing
+  Refused : ℕ → Writing
+
+-- the same, as the code answers it; a refusal is told by its number
+abbrev pub writing_seen : Result ℕ Refusal → Writing
+writing_seen (Ok whole) = Written whole
+writing_seen (Err r) = Refused (number_of r)
 
 -- what is answered and what the buffer then holds, for bytes that own checks may refuse. The last check is a buffer shorter than the record (12).
 unfoldable pub writing : List Check → List ℕ → List ℕ → Writing × List ℕ

@@ -1,4 +1,3 @@
-pub mod Telling
 pub mod Moves
 pub mod Parts
 pub mod Steps

@@ -8,16 +8,13 @@ use lib.Dec.{leb}
 use lib.ListN.{length, length-take, length-drop, length-append}
 use borrow.Author.Tests.{leb-true, leb-false}
 use Rattle.lists.specs.Put.{put}
-use Rattle.feed.specs.declared.Reading.{Reading}
-use Rattle.feed.specs.declared.Reading.TheVariants.{Found, Refused, End}
+use Rattle.feed.specs.Reading.{Reading, Found, Refused, End, reading, shows}
 use Rattle.feed.specs.Kind.{shortest_record, longest_record}
-use Rattle.feed.specs.Reading.{reading, shows}
 use Rattle.feed.proofs.Locality.{long_shows}
 use Rattle.feed.proofs.Readings.{found_ends}
-use Rattle.framing.specs.declared.Went.TheVariants.{More, On, Ended}
+use Rattle.framing.specs.Step.{More, On, Ended, Effect, effect_of, waits, done, stepped}
 use Rattle.framing.specs.Shown.{shown, tells}
 use Rattle.framing.specs.Program.{Deed, Ends, Goes, Program}
-use Rattle.framing.specs.Step.{Effect, effect_of, waits, done, stepped}
 
 pub record Moves {P : Type 0} (left : ℕ) (window : List ℕ) (ended : Bool) (out : List ℕ) (e : Effect P) : Type 0 where
   -- it uses no more than the window has, and than is left

@@ -1,39 +1,19 @@
 -- Laws of a step, whatever the program.
-use Prim.Native.Nat.{ℕ, ◌-◌, ◌≤◌, min}
+use Prim.Native.Nat.{ℕ, ◌-◌, ◌≤◌}
 use native.Mathlib.Nat.{sub-zero}
 use native.Mathlib.Omega.{arith}
 use mathlib.Core.Bool.{Bool, true, false, cond}
 use mathlib.Core.List.{List}
 use mathlib.Core.Path.{◌≡◌, refl, sym, ap, subst, ◌∙◌}
-use lib.Dec.{leb}
-use lib.ListN.{length, take, length-take}
-use lib.Seq.{take_all}
-use borrow.Author.Tests.{leb-true, leb-false}
+use lib.ListN.{length, length-take}
 use Rattle.lists.specs.Put.{put}
-use Rattle.feed.specs.declared.Reading.{Reading}
-use Rattle.feed.specs.declared.Reading.TheVariants.{Found, Refused, End}
+use Rattle.feed.specs.Reading.{Reading, Found, Refused, End, reading}
 use Rattle.feed.specs.declared.Record.{Record}
 use Rattle.feed.specs.Kind.{shortest_record}
-use Rattle.feed.specs.Reading.{reading}
 use Rattle.feed.proofs.Readings.{found_ends}
-use Rattle.framing.specs.declared.Went.TheVariants.{On, Ended}
+use Rattle.framing.specs.Step.{On, Ended, Effect, effect_of, waits, done, stepped}
 use Rattle.framing.specs.Shown.{shown, tells}
 use Rattle.framing.specs.Program.{Deed, Ends, Goes, Program, next_of, deed}
-use Rattle.framing.specs.Step.{Effect, effect_of, waits, done, stepped}
-
--- ---- what the window shows
-
-pub shown_least : (left : ℕ) (window : List ℕ) (size : ℕ) → size ≡ min left (length window) → take size window ≡ shown left window
-shown_least left window size e = go (leb left (length window)) refl
-  where
-    go : (b : Bool) → leb left (length window) ≡ b → take size window ≡ take left window
-    go true h =
-        let few = leb-true left (length window) h in
-        let same : size ≡ left = omega arith in
-        ap (λ (k : ℕ). take k window) same
-    go false h =
-        let more = leb-false left (length window) h in
-        take_all size window (omega arith) ∙ sym (take_all left window (omega arith))
 
 -- ---- what a deed leaves, where its lines are put out
 

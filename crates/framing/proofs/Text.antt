@@ -8,15 +8,12 @@ use lib.ListN.{length, take, drop, length-append, length-drop}
 use lib.Seq.{take_at}
 use Rattle.lists.specs.Put.{put}
 use Rattle.lists.proofs.Put.{put_none, put_first, put_then}
-use Rattle.feed.specs.declared.Reading.{Reading}
-use Rattle.feed.specs.declared.Reading.TheVariants.{Found, Refused, End}
+use Rattle.feed.specs.Reading.{Reading, Found, Refused, End, reading}
 use Rattle.feed.specs.Kind.{shortest_record}
-use Rattle.feed.specs.Reading.{reading}
 use Rattle.feed.proofs.Readings.{found_ends}
-use Rattle.framing.specs.declared.Went.TheVariants.{On, Ended}
+use Rattle.framing.specs.Step.{On, Ended, Effect, effect_of, done, stepped}
 use Rattle.framing.specs.Shown.{shown, tells}
 use Rattle.framing.specs.Program.{Deed, Ends, Goes, Program, next_of, deed, continued, printed_from, printed_by}
-use Rattle.framing.specs.Step.{Effect, effect_of, done, stepped}
 use Rattle.framing.proofs.Moves.{ended_is_not_on}
 
 -- ---- a step that is shown all that is left of the feed

@@ -10,10 +10,8 @@ use lib.Seq.{take_all, take-take, take-length, length-take-le}
 use borrow.Author.Tests.{leb-true, leb-false}
 use Rattle.std.specs.List.{list_all}
 use Rattle.lists.proofs.Bools.{and_left, and_right}
-use Rattle.feed.specs.declared.Reading.{Reading}
-use Rattle.feed.specs.declared.Reading.TheVariants.{Found, Refused, End}
+use Rattle.feed.specs.Reading.{Reading, Found, Refused, End, shows, reading, reading_from}
 use Rattle.feed.specs.Kind.{shortest_record, longest_record}
-use Rattle.feed.specs.Reading.{shows, reading, reading_from}
 use Rattle.feed.proofs.Fields.{drop_first}
 use Rattle.feed.proofs.Locality.{shows_elim, long_shows, reading_shown}
 use Rattle.feed.proofs.Readings.{found_ends}

@@ -1,9 +1,7 @@
 -- A program that reads a feed record by record, and what it prints of a feed, from its first byte to its last line.
 use Rattle.std.specs.Prelude.{ℕ, zero, suc, List, [], ◌++◌, length, take, drop}
-use Rattle.feed.specs.declared.Reading.{Reading}
-use Rattle.feed.specs.declared.Reading.TheVariants.{Found, Refused, End}
+use Rattle.feed.specs.Reading.{Reading, Found, Refused, End, reading}
 use Rattle.feed.specs.declared.Record.{Record}
-use Rattle.feed.specs.Reading.{reading}
 
 -- what is done at a place of the feed, where P says how a run stands
 pub data Deed (P : Type 0) : Type 0 where

@@ -3,8 +3,7 @@ use Rattle.std.specs.Prelude.{ℕ, ◌-◌, ◌<◌, Bool, true, false, cond, �
 use mathlib.Core.List.{List, [], ◌∷◌, ◌++◌, IsPrefix}
 use Rattle.std.specs.List.{list_all}
 use Rattle.feed.specs.Kind.{longest_record}
-use Rattle.feed.specs.declared.Reading.{Reading}
-use Rattle.feed.specs.Reading.{reading}
+use Rattle.feed.specs.Reading.{Reading, reading}
 use Rattle.framing.specs.Shown.{shown, tells}
 use Rattle.framing.specs.Program.{Deed, Ends, Goes, Program, next_of, deed, printed_by}
 

@@ -8,12 +8,11 @@ ghost use Rattle.std.specs.Io.KnownBytes.{Appends, Consumes, IsAtEnd, Keeps};
 ghost use Rattle.std.proofs.Math.Seq.{slice};
 ghost use Rattle.pipe.specs.Flow.{Flowing, Refilled, begun, gone, told, unwritten, written_bytes};
 
-use framing::least;
 use std::io;
 use std::io::{Read, Write};
 
 // How far a program is with its input and what it prints.
-#[derive(Clone, Copy)]
+#[derive(Clone, Copy, Debug, PartialEq, Eq)]
 pub struct Flow {
     // How many bytes of the input may be used, and how many of them are left.
     pub limit: usize,
@@ -30,10 +29,9 @@ pub struct Flow {
 fn write_out<W: Write>(output: &mut W, text: &[u8]) -> io::Result<()>
     ensures { OnOk result (Appends (W.contents output.old) (W.contents output.new) text.now) }
 {
-    match output.write_all(text) {
-        Ok(()) => Ok(()),
-        Err(e) => Err(io::Error::new(e.kind(), "a write failed")),
-    }
+    output
+        .write_all(text)
+        .map_err(|e| io::Error::new(e.kind(), "a write failed"))
 }
 
 // A buffer that has no room for another step is written. Answers how much of it is filled then.
@@ -50,20 +48,8 @@ fn make_room<W: Write>(output: &mut W, out: &[u8], filled: usize, room: usize) -
     Ok(filled)
 }
 
-// The bytes from one place up to another moved to the front.
-fn move_front(window: &mut [u8], at: usize, end: usize)
-    requires { (at ≤ end) × (end ≤ length window.old) }
-    ensures { window.new ≡ slice at end window.old ++ drop (end - at) window.old }
-{
-    let mut i = at;
-    while i < end {
-        let byte = window[i];
-        window[i - at] = byte;
-        i += 1;
-    }
-}
-
 // What is not used moved to the front, and one read behind it, which asks for no more than may still be read. Answers how many bytes came.
+#[tactic(auto, using(crate::proofs::Read::consumes_part))]
 fn read_behind<R: Read>(
     input: &mut R,
     window: &mut [u8],
@@ -78,18 +64,16 @@ fn read_behind<R: Read>(
     ensures at_end { IfOk result (λ got. got ≡ 0 → end - at < left → end - at < length window.old → IsAtEnd (R.remaining input.new)) }
     ensures input_kept { OnErr result (Keeps (R.remaining input.old) (R.remaining input.new)) }
 {
-    move_front(window, at, end);
-    let kept = end - at;
-    let most = least(left, window.len());
-    let part = &mut window[kept..most];
-    input.read(part)
+    window.copy_within(at..end, 0);
+    let most = left.min(window.len());
+    input.read(&mut window[end - at..most])
 }
 
 // Where a feed stopped that did not end in `done`, for standard error: the number of the record that comes next, the byte at which it begins, and the last line again.
 fn tell_place<E: Write>(errors: &mut E, records: u32, byte: usize, last: &[u8]) -> io::Result<()>
     ensures { OnOk result (Appends (E.contents errors.old) (E.contents errors.new) (told records byte last.now)) }
 {
-    if last.len() == 0 || last[0] == b'd' {
+    if let [] | [b'd', ..] = last {
         return Ok(());
     }
     write!(errors, "record {} byte {byte}: ", records as u64 + 1)?;
@@ -161,6 +145,7 @@ impl Flow {
     }
 
     // After the last step, which put out so many bytes: all is written, and the place told where it did not end in `done`.
+    #[tactic(auto, using(framing::proofs::Parts::part_slice))]
     pub fn finish<W: Write, E: Write>(
         self,
         output: &mut W,

@@ -1,33 +1,21 @@
 -- `write_close` meets its contract: its field is put behind its head.
 use native.Mathlib.Omega.{arith}
-use mathlib.Core.List.{List, [], ◌++◌}
-use mathlib.Core.Path.{sym, ap, ◌∙◌}
-use Prim.Native.Nat.{ℕ}
+use mathlib.Core.List.{[], ◌++◌}
 use lib.Dec.{lit≤}
-use borrow.Author.Tests.{lt-ltb, le-ltb}
+use borrow.Author.Tests.{lt-ltb}
 use Rattle.feed.specs.declared.Record.TheVariants.{Close}
-use Rattle.feed_write.specs.declared.Writing.TheVariants.{Written}
 use Rattle.feed.specs.Number.{bytes}
 use Rattle.feed.specs.Record.{record_bytes, stream_known}
 use Rattle.lists.proofs.Put.{put_then}
-use Rattle.feed_write.proofs.Writings.{stream_refused, room_refused, record_written}
+use Rattle.feed_write.proofs.Writings.{record_done}
 use Rattle.feed_write.proofs.write_close.Goals as goal
-
-pub returns-then-stream-ge2 : goal.returns-then-stream-ge2
-unfolding stream_known
-returns-then-stream-ge2 c = sym (stream_refused _ _ _ (le-ltb _ _ c.if-stream-ge2.true))
-
-pub returns-then-buf-lt-CLOSE_WHOLE : goal.returns-then-buf-lt-CLOSE_WHOLE
-unfolding record_bytes stream_known
-returns-then-buf-lt-CLOSE_WHOLE c = sym (room_refused _ _ _ (lt-ltb _ _ c.if-stream-ge2.false) (lit≤ tt) c.if-buf-lt-CLOSE_WHOLE.true)
 
 pub returns : goal.returns
 unfolding record_bytes stream_known
 returns c =
     let a = c.args in
     let old = a.buf.now in
-    ap (λ (new : List ℕ). (Written 6, new))
-    (put_then 0 (bytes 2 4 ++ bytes 2 3) (bytes 2 a.stream) old
-    c.put_head.ensures
-    c.put16.ensures (omega arith))
-    ∙ sym (record_written (Close a.stream) [] old (lt-ltb a.stream 2 c.if-stream-ge2.false) (lit≤ tt) (omega arith))
+    let head = c.in_ok-whole.ensures.room in
+    let stream = rw c.to_le_bytes.ensures at c.put_text.ensures in
+    record_done (Close a.stream) [] old (lt-ltb a.stream 2 c.in_ok-check_stream.ensures.known) (lit≤ tt) head.0 head.1
+    (put_then 0 (bytes 2 4 ++ bytes 2 3) (bytes 2 a.stream) old head.2 stream (omega arith))
