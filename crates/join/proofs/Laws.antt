@@ -36,7 +36,7 @@ use Rattle.halves.specs.Calls.{entry_rows, after_entry, after_move, moved_half, 
 use Rattle.join.specs.declared.Taken.{Taken}
 use Rattle.join.specs.declared.Taken.TheVariants as taken
 use Rattle.join.specs.State.{State, Sound, sound, seen_from, join_of, view, state_of}
-use Rattle.join.specs.Calls.{Handed, Waiting, Finished, outcome, called, judge_rows, waiting_in, ready_in, both_closed, after_take, side_of, entry_on, entry_call, mark_on, mark_call, close_on, close_call, take_on, took_of, without}
+use Rattle.join.specs.Calls.{Handed, Waiting, Finished, Outcome, outcome, called, judge_rows, waiting_in, ready_in, both_closed, after_take, side_of, entry_on, entry_call, mark_on, mark_call, close_on, close_call, take_on, took_of, with_queue, without}
 use Rattle.join.proofs.Facts.{sound_parts}
 
 -- ---- the state as a side sees it
@@ -164,6 +164,10 @@ module _ (s : State) (stream : ℕ) where
     judged_close =
         let own = side_of stream in
         ap (λ (x : Side). close_on s x) at ∙ call_judged (close_rows (view own s).own) (state_of own (after_move Closed (view own s))) passed
+
+-- what a mark or a close leaves beside the queue that was there is what it leaves
+pub beside_own : (answer : Answer) (before after : State) (o : Outcome Answer) → after.queue ≡ before.queue → outcome answer (with_queue before.queue after) ≡ o → outcome answer after ≡ o
+beside_own answer before after o e f = ap (λ (q : Queue). outcome answer (with_queue q after)) e ∙ f
 
 -- ---- a take
 

@@ -7,13 +7,10 @@ use borrow.Author.Tests.{ltb-true}
 use Rattle.pairing.specs.declared.Entry.{Entry}
 use Rattle.pairing.specs.declared.Side.{Side}
 use Rattle.journal.specs.Answer.{Refused}
-use Rattle.journal.specs.declared.Gate.TheVariants.{Open, Closed}
-use Rattle.journal.specs.Journal.{mark_rows}
-use Rattle.join.specs.State.{State, Sound, view, state_of}
-use Rattle.halves.specs.Calls.{entry_rows, after_entry, after_move, close_rows}
-use Rattle.join.specs.Calls.{side_of, entry_on, entry_call, mark_on, mark_call, close_on, close_call}
+use Rattle.join.specs.State.{State, Sound}
+use Rattle.join.specs.Calls.{side_of, entry_on, mark_on, close_on}
 use Rattle.join.proofs.Kept.{entry_kept, mark_kept, close_kept, entry_refused, mark_refused, close_refused}
-use Rattle.join.proofs.Laws.{judged_sound}
+use Rattle.join.proofs.Laws.{judged_passes, judged_entry, judged_mark, judged_close}
 use Rattle.feed.specs.declared.Record.{Record}
 use Rattle.feed.specs.declared.Record.TheVariants.{Entry as entry_record, Mark, Close, Note}
 use Rattle.feed.specs.Record.{stream_known}
@@ -21,31 +18,22 @@ use Rattle.steps.specs.Printed.{heard}
 
 module _ (s : State) (h : Sound s) (found : Record) (known : stream_known found ≡ true) where
   pub heard_entry : (stream : ℕ) (e : Entry) → found ≡ entry_record stream e → (side : Side) → side ≡ side_of stream → entry_on s side e ≡ heard s found
-  unfolding stream_known entry_call
+  unfolding stream_known
   heard_entry stream e is side at =
       let below = ltb-true stream 2 (rw is at known) in
-      let own = side_of stream in
-      ap (λ (x : Side). entry_on s x e) at
-      ∙ judged_sound s stream (entry_rows own (view own s) e) (state_of own (after_entry own (view own s) e)) h.judged (omega arith)
-      ∙ sym (ap (heard s) is)
+      judged_entry s stream side at (judged_passes s stream h.judged (omega arith)) e ∙ sym (ap (heard s) is)
 
   pub heard_mark : (stream time : ℕ) → found ≡ Mark stream time → (side : Side) → side ≡ side_of stream → mark_on s side time ≡ heard s found
-  unfolding stream_known mark_call
+  unfolding stream_known
   heard_mark stream time is side at =
       let below = ltb-true stream 2 (rw is at known) in
-      let own = side_of stream in
-      ap (λ (x : Side). mark_on s x time) at
-      ∙ judged_sound s stream (mark_rows time (view own s).own) (state_of own (after_move (Open time) (view own s))) h.judged (omega arith)
-      ∙ sym (ap (heard s) is)
+      judged_mark s stream side at (judged_passes s stream h.judged (omega arith)) time ∙ sym (ap (heard s) is)
 
   pub heard_close : (stream : ℕ) → found ≡ Close stream → (side : Side) → side ≡ side_of stream → close_on s side ≡ heard s found
-  unfolding stream_known close_call
+  unfolding stream_known
   heard_close stream is side at =
       let below = ltb-true stream 2 (rw is at known) in
-      let own = side_of stream in
-      ap (λ (x : Side). close_on s x) at
-      ∙ judged_sound s stream (close_rows (view own s).own) (state_of own (after_move Closed (view own s))) h.judged (omega arith)
-      ∙ sym (ap (heard s) is)
+      judged_close s stream side at (judged_passes s stream h.judged (omega arith)) ∙ sym (ap (heard s) is)
 
 -- a sound state stays sound, and a refusal leaves it as it stood
 module _ (s : State) where

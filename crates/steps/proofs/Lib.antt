@@ -1,4 +1,3 @@
-pub mod Fresh
 pub mod Heard
 pub mod Lines
 pub mod Steps

@@ -2,27 +2,31 @@
 use Prim.Native.Nat.{ℕ, suc, ◌+◌, ◌-◌, ◌≤◌}
 use native.Mathlib.Omega.{arith}
 use mathlib.Core.Bool.{Bool}
-use mathlib.Core.List.{List, [], ◌∷◌, ◌++◌}
-use mathlib.Core.Path.{◌≡◌, sym, ap, ◌∙◌}
+use mathlib.Core.List.{List}
+use mathlib.Core.Path.{◌≡◌, refl, sym, ap, ◌∙◌}
+use Rattle.std.specs.Prelude.{Option, Some, None, Result, Ok, Err}
 use lib.ListN.{length}
 use Rattle.lists.specs.Put.{put}
 use Rattle.lists.proofs.Keep.{keep_length}
-use Rattle.lists.proofs.Store.{content_length}
 use Rattle.pairing.specs.declared.Rule.{Rule}
-use Rattle.pairing.specs.Numbers.{pair_numbers, pair_in}
 use Rattle.journal.specs.Answer.{Answer, Accepted, Refused}
+use Rattle.queue.specs.declared.Queue.{Queue}
 use Rattle.queue.specs.Queue as queue
+use Rattle.queue.proofs.Sound.{queue_waiting}
 use Rattle.join.specs.State.{State, Sound}
 use Rattle.join.specs.Calls.{Outcome, outcome, waiting_in, ready_in, ready_of, without}
 use Rattle.join.proofs.Kept.{sound_fresh, without_kept}
 use Rattle.join.proofs.Ready.{ready_few}
+use Rattle.feed.specs.declared.Found.{Found as FoundAt}
+use Rattle.feed.specs.declared.Misread.{Misread}
+use Rattle.feed.specs.declared.Record.{Record}
 use Rattle.feed.specs.Kind.{shortest_record}
-use Rattle.framing.specs.declared.Went.TheVariants.{Ended}
+use Rattle.feed.specs.Reading.{Found, End, reading_seen}
 use Rattle.framing.specs.Program.{Goes}
-use Rattle.framing.specs.Step.{Effect, effect_of, stepped}
+use Rattle.framing.specs.Step.{Ended, Effect, effect_of, stepped}
 use Rattle.framing.proofs.Steps as steps
-use Rattle.lines.specs.Line.{line}
-use Rattle.steps.specs.Printed.{Progress, begun, read_limit, refused_word, refused_line, heard, onward, answered, joinfeed}
+use Rattle.steps.specs.declared.Progress.{Progress}
+use Rattle.steps.specs.Printed.{begun, read_limit, refused_line, heard, onward, answered, joinfeed}
 use Rattle.steps.specs.Step.{Kept}
 use Rattle.steps.proofs.Heard.{heard_kept}
 
@@ -31,9 +35,9 @@ pub kept_begun : (rule : Rule) (limit : ℕ) → limit ≤ read_limit → Kept (
 kept_begun rule limit few = record { sound = sound_fresh rule; few_records = omega arith; few_pairs = omega arith }
 
 -- no more are ready than wait
-pub ready_count : (s : State) → queue.Holds s.join.queue s.rows → (length (ready_of s) ≤ s.join.queue.count) × (s.join.queue.count ≤ queue.places)
+pub ready_count : (s : State) → queue.Holds s.queue → (length (ready_of s) ≤ s.queue.count) × (s.queue.count ≤ queue.places)
 ready_count s h =
-    let waits : length (waiting_in s) ≡ s.join.queue.count = content_length pair_in pair_numbers queue.places queue.width s.join.queue.count s.rows h in
+    let waits : length (waiting_in s) ≡ s.queue.count = ap (λ (q : Queue). q.count) (queue_waiting s.queue h) in
     (omega (arith, keep_length (ready_in s) (waiting_in s)), h.few)
 
 -- a drop of as many as are ready, and counts that have them and one record more
@@ -45,14 +49,23 @@ onward_with p k e s records pairs f g h =
     let longer : pairs ≡ p.pairs + length (ready_of p.state) = omega arith in
     λ i. record { state = same i; records = more i; pairs = longer i }
 
+-- ---- a reading that finds no record
+
+-- and is not refused finds the end
+pub found_end : (r : Result (Option (FoundAt Record)) Misread) → ((found : Record) (next : ℕ) → reading_seen r ≡ Found found next → ⊥) → ((m : Misread) → r ≡ Err m → ⊥) → reading_seen r ≡ End
+found_end (Ok (Some f)) none passed = absurd (none f.found f.next refl)
+found_end (Ok None) none passed = refl
+found_end (Err m) none passed = absurd (passed m refl)
+
 -- ---- what the join refused
 
-pub refused_effect : (p : Progress) (out : List ℕ) (next : ℕ) (o : Outcome Answer) (s : State) (number : ℕ) → outcome (Refused number) s ≡ o → o.state ≡ p.state → (filled : ℕ) (buffer : List ℕ) → filled ≡ length (refused_word ++ line (number ∷ p.records ∷ [])) → buffer ≡ put 0 (refused_word ++ line (number ∷ p.records ∷ [])) out
-    → record { went = Ended; progress = record { state = s; records = p.records; pairs = p.pairs }; used = 0; filled = filled; buffer = buffer } ≡ effect_of p out next (answered p o.answer o.state)
-unfolding refused_line
-refused_effect p out next o s number e f filled buffer g h =
-    let same : s ≡ p.state = ap (λ (x : Outcome Answer). x.state) e ∙ f in
-    steps.ends_effect p out next (refused_line number p) filled buffer g h _ (λ i. record { state = same i; records = p.records; pairs = p.pairs })
+pub refused_effect : (p q : Progress) (out : List ℕ) (next : ℕ) (o : Outcome Answer) (number : ℕ) → outcome (Refused number) q.state ≡ o → o.state ≡ p.state → q.records ≡ p.records → q.pairs ≡ p.pairs
+    → (filled : ℕ) (buffer : List ℕ) → filled ≡ length (refused_line number q) → buffer ≡ put 0 (refused_line number q) out
+    → record { went = Ended; progress = q; used = 0; filled = filled; buffer = buffer } ≡ effect_of p out next (answered p o.answer o.state)
+refused_effect p q out next o number e f m n filled buffer g h =
+    let state : q.state ≡ p.state = ap (λ (x : Outcome Answer). x.state) e ∙ f in
+    let same : q ≡ p = λ i. record { state = state i; records = m i; pairs = n i } in
+    steps.ends_effect p out next (refused_line number p) filled buffer (g ∙ ap (λ (r : Progress). length (refused_line number r)) same) (h ∙ ap (λ (r : Progress). put 0 (refused_line number r) out) same) q same
     ∙ ap (λ (x : Outcome Answer). effect_of p out next (answered p x.answer x.state)) e
 
 -- ---- what a run keeps

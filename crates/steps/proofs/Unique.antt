@@ -1,24 +1,19 @@
--- The contract of a step allows one answer, one join, one pair of counts and one content of the places and of the buffer that it is lent.
+-- The contract of each public function allows one answer, one progress and one content of the buffer that it is lent.
 use Prim.Native.Nat.{ℕ}
 use mathlib.Core.List.{List}
-use Rattle.unique.specs.Unique.{OneOutcome}
-use Rattle.unique.proofs.Equation.{agree}
-use Rattle.lists.specs.Store.{Rows}
-use Rattle.steps.specs.declared.Stepped.{Stepped}
-use Rattle.steps.proofs.step.Reads as step
+use Rattle.unique.specs.Unique.{OneResult, OneOutcome}
+use Rattle.unique.proofs.Equation.{one_by_equation, agree}
+use Rattle.framing.specs.declared.Went.{Went as Answered}
+use Rattle.framing.proofs.Unique.{same_went}
+use Rattle.steps.specs.declared.Progress.{Progress}
+use Rattle.steps.proofs.Progress.begun.Reads as begun
+use Rattle.steps.proofs.Progress.step.Reads as step
 
-one_step : OneOutcome {Seen = Stepped × (Rows × (Rows × (Rows × List ℕ)))}
-    (λ κs r left. (r, (left.1.0.now, (left.1.1.0.now, (left.1.1.1.0.now, left.1.1.1.1.1.1.1.1.0.now)))))
-    step.Post
+one_begun : OneResult begun.Post
+one_begun = one_by_equation _ _
+
+one_step : OneOutcome {Seen = Answered × Progress × List ℕ} (λ κs r left. (r, left.0.now, left.1.1.1.1.0.now)) step.Post
 one_step κs args x y left other p q =
     let e = agree p.0 q.0 in
-    λ i. (
-      record {
-        went = (e i).went;
-        join = (e i).progress.state.join;
-        counts = record { records = (e i).progress.records; pairs = (e i).progress.pairs };
-        used = (e i).used;
-        filled = (e i).filled;
-      },
-      ((e i).progress.state.in_a, ((e i).progress.state.in_b, ((e i).progress.state.rows, (e i).buffer))),
-    )
+    let same = same_went x y (λ i. (e i).went) (λ i. (e i).used) (λ i. (e i).filled) in
+    λ i. (same i, (e i).progress, (e i).buffer)

@@ -3,14 +3,14 @@ use Rattle.std.specs.Prelude.{ℕ, ◌+◌, ◌*◌, ◌≤◌, List, length}
 use Rattle.queue.specs.Queue as queue
 use Rattle.join.specs.State.{Sound}
 use Rattle.feed.specs.Kind.{shortest_record, pair}
-use Rattle.framing.specs.declared.Went.{Went as went_in_code}
+use Rattle.framing.specs.declared.Went.{Went as Answered}
 use Rattle.framing.specs.Step.{Effect, went_of, used_of, filled_of}
 use Rattle.lines.specs.Line.{field}
 use Rattle.steps.specs.declared.Progress.{Progress}
 use Rattle.steps.specs.Printed.{read_limit}
 
 -- what a step answers and leaves, as one value
-abbrev pub effect_with : went_in_code → Progress → List ℕ → Effect Progress
+abbrev pub effect_with : Answered → Progress → List ℕ → Effect Progress
 effect_with went progress out = record { went = went_of went; progress = progress; used = used_of went; filled = filled_of went; buffer = out }
 
 -- what a run keeps: a sound join, and counts that fit, as each record has some bytes and 256 pairs at most are ready

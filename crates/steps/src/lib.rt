@@ -1,7 +1,7 @@
 // A feed joined record by record, through whatever window shows it: what joinfeed does at each record, and what it puts out.
 #![tactic(auto)]
 
-ghost use Rattle.std.specs.Prelude.{◌≡◌, true, ◌+◌, ◌-◌, ◌*◌, ◌≤◌, ◌<◌, length};
+ghost use Rattle.std.specs.Prelude.{◌≡◌, ℕ, true, ◌+◌, ◌-◌, ◌*◌, ◌≤◌, ◌<◌, length};
 ghost use mathlib.Core.List.{[], ◌∷◌, ◌++◌};
 ghost use Rattle.lists.specs.Judge.{chain};
 ghost use Rattle.lists.specs.Put.{put};
@@ -13,12 +13,14 @@ ghost use Rattle.queue.specs.Queue as the_queue;
 ghost use Rattle.join.specs.State.{Sound};
 ghost use Rattle.join.specs.Calls.{outcome};
 ghost use Rattle.feed.specs.Record.{stream_known};
-ghost use Rattle.framing.specs.Step.{effect_of, stepped, used_of};
+ghost use Rattle.feed.specs.declared.Record.{Record};
+ghost use Rattle.feed.specs.Reading.{Found as record_found, reading_seen};
+ghost use Rattle.framing.specs.Step.{effect_of, done, stepped, used_of};
 ghost use Rattle.lines.specs.Line.{line};
 ghost use Rattle.steps.specs.Printed.{begun, refused_line, end_line, pair_lines, heard, taken, joinfeed};
 ghost use Rattle.steps.specs.Step.{effect_with, Kept, Few, line_room, room};
 
-use feed::Record;
+use feed::{Found, Misread, Record};
 use framing::{Went, read_shown, tells};
 use join::{Join, side_of};
 use lines::FIELD;
@@ -116,8 +118,12 @@ impl Progress {
         ensures value { result ≡ length (refused_line (number_of refusal) self.now) }
         ensures out_after { out.new ≡ put 0 (refused_line (number_of refusal) self.now) out.old }
     {
-        let number = u64::from(refusal.number());
-        put_last(out, b"refused ", &[number, u64::from(self.records)])
+        let records = self.records;
+        put_last(
+            out,
+            b"refused ",
+            &[u64::from(refusal.number()), u64::from(records)],
+        )
     }
 
     // The last line of a feed that ends.
@@ -146,6 +152,19 @@ impl Progress {
         Went::On { used: next, filled }
     }
 
+    // The last step, at a reading that finds no record: it is refused, or the feed ends.
+    fn stop(&self, reading: Result<Option<Found<Record>>, Misread>, out: &mut [u8]) -> Went
+        requires { (room ≤ length out.old) × (Few self.now) × ((found : Record) (next : ℕ) → reading_seen reading ≡ record_found found next → ⊥) }
+        ensures { effect_with result self.now out.new ≡ done joinfeed self.now out.old (reading_seen reading) }
+    {
+        let Err(misread) = reading else {
+            let filled = self.put_end(out);
+            return Went::Ended { filled };
+        };
+        let filled = self.put_refused(out, misread.refusal);
+        Went::Ended { filled }
+    }
+
     // One step: the record that stands first in the window, if the window shows all that can matter to it. A refused reading and the feed's end leave early. The join hears the record, and what is then ready is put out.
     pub fn step(&mut self, left: usize, window: &[u8], ended: bool, out: &mut [u8]) -> Went
         requires { (Kept self.old left) × (room ≤ length out.old) }
@@ -156,13 +175,11 @@ impl Progress {
             return Went::More;
         }
         let reading = read_shown(left, window);
-        let Ok(Some(found)) = reading else {
-            let Err(misread) = reading else {
-                let filled = self.put_end(out);
-                return Went::Ended { filled };
-            };
-            let filled = self.put_refused(out, misread.refusal);
-            return Went::Ended { filled };
+        let Ok(shown) = reading else {
+            return self.stop(reading, out);
+        };
+        let Some(found) = shown else {
+            return self.stop(reading, out);
         };
         let Err(refusal) = hear(&mut self.state, found.found) else {
             return self.hand_out(found.next, out);

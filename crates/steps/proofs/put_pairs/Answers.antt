@@ -1,63 +1,36 @@
 -- `put_pairs` meets its contract.
-use Prim.Native.Nat.{◌+◌}
-use native.Mathlib.Omega.{arith}
-use mathlib.Core.List.{[], flat_map}
-use mathlib.Core.Path.{◌≡◌, refl, sym, ap, ◌∙◌}
-use lib.ListN.{length, get_or}
+use Rattle.std.proofs.Common.{arith, refl, sym, ap, length, get_or}
+use mathlib.Core.List.{flat_map}
+use Rattle.pairing.specs.Numbers.{pair_numbers}
 use Rattle.lists.proofs.Put.{put_none}
 use Rattle.lines.specs.Line.{line}
+use Rattle.queue.specs.Queue.{no_pair}
+use Rattle.steps.specs.Printed.{pair_line}
 use Rattle.steps.proofs.Lines.{length_lines_more, put_line_more}
 use Rattle.steps.proofs.put_pairs.Goals as goal
 
-pub loop-i-init : goal.loop-i-init
+pub loop-p-init : goal.loop-p-init
 unfolding flat_map
-loop-i-init c = (omega arith, omega arith, refl, sym (put_none 0 c.args.out.now), refl)
-
-pub offset_bounds-rows-i : goal.offset_bounds-rows-i
-offset_bounds-rows-i c = omega arith
-
-pub bounds-rows-i : goal.bounds-rows-i
-bounds-rows-i c = omega arith
-
-pub numbers_in-numbers-requires : goal.numbers_in-numbers-requires
-numbers_in-numbers-requires c = tt
-
-pub slice_bounds-put_line-end : goal.slice_bounds-put_line-end
-slice_bounds-put_line-end c =
-    let n = c.numbers_in-numbers.ensures in
-    sym (ap length n.0 ∙ n.1)
+loop-p-init c = record { few = omega arith; long = refl; placed = sym (put_none 0 c.args.out.now) }
 
 pub put_line-at-requires : goal.put_line-at-requires
+unfolding pair_numbers
 put_line-at-requires c =
-    let n = c.numbers_in-numbers.ensures in
-    let same = ap line n.0 in
-    let wide = ap length n.0 in
-    (omega (arith, wide, n.1), omega (arith, ap length same, n.2))
+    let n = c.numbers_in.ensures in
+    (omega (arith, ap length n.0), omega (arith, ap (λ l. length (line l)) n.0, n.1))
 
-pub overflow_add-i : goal.overflow_add-i
-overflow_add-i c = omega arith
-
-pub loop-i-smaller : goal.loop-i-smaller
-loop-i-smaller c = omega arith
-
-pub loop-i-preserved : goal.loop-i-preserved
-loop-i-preserved c =
-    let at-loop = c.loop-i in
-    let n = c.numbers_in-numbers.ensures in
-    let rows = c.args.rows.now in
-    let i = at-loop.i in
-    let placed = c.put_line-at.ensures in
-    let same : line c.numbers_in-numbers.result ≡ line (get_or rows i []) = ap line n.0 in
-    let behind : c.put_line-at.result ≡ at-loop.at + length (line (get_or rows i [])) = rw same at placed.value in
-    let more = length_lines_more rows i [] (omega arith) in (
-      omega arith,
-      omega (arith, n.2),
-      omega arith,
-      put_line_more rows i [] (omega arith) at-loop.at c.args.out.now at-loop.invariant.2 at-loop.invariant.3 (rw same at placed.out_after) (omega (arith, n.2)),
-      omega arith,
-    )
-
-pub returns : goal.returns
-returns c =
-    let all : c.loop-i.i ≡ c.args.k = omega arith in
-    record { value = rw all at c.loop-i.invariant.2; out_after = rw all at c.loop-i.invariant.3 }
+pub loop-p-preserved : goal.loop-p-preserved
+unfolding pair_line
+loop-p-preserved c =
+    let ps = c.args.pairs.now in
+    let at-loop = c.loop-p in
+    let i = at-loop.p-index in
+    let p = get_or ps i no_pair in
+    let n = c.numbers_in.ensures in
+    let placed = rw n.0 at c.put_line-at.ensures in
+    let more = length_lines_more ps i no_pair (omega arith) in
+    record {
+      few = omega (arith, n.1);
+      long = omega arith;
+      placed = put_line_more ps i no_pair (omega arith) at-loop.at c.args.out.now at-loop.invariant.long at-loop.invariant.placed placed.out_after (omega (arith, n.1));
+    }

@@ -1,20 +1,13 @@
--- The invariant of its loop: the lines of the first i pairs are put in. The measure is how many are left.
-use Prim.Native.Nat.{◌-◌, ◌*◌, ◌≤◌}
-use mathlib.Core.List.{flat_map}
-use mathlib.Core.Path.{◌≡◌}
-use lib.ListN.{length, take}
+-- The lines of the pairs so far are put in, none longer than a line may be.
+use Rattle.std.proofs.Common.{◌≡◌, ◌≤◌, ◌*◌, length, take}
 use Rattle.lists.specs.Put.{put}
-use Rattle.lines.specs.Line.{line}
+use Rattle.steps.specs.Printed.{pair_lines}
 use Rattle.steps.specs.Step.{line_room}
 use Rattle.steps.proofs.put_pairs.Given as goal
 
-abbrev pub invariant-loop-i : goal.invariant-loop-i
-invariant-loop-i l =
-    (l.i ≤ l.k)
-    × (l.at ≤ line_room * l.i)
-    × (l.at ≡ length (flat_map line (take l.i l.rows)))
-    × (l.out ≡ put 0 (flat_map line (take l.i l.rows)) l.initial.out)
-    × (length l.out ≡ length l.initial.out)
-
-abbrev pub decreases-loop-i : goal.decreases-loop-i
-decreases-loop-i l = l.k - l.i
+abbrev pub invariant-loop-p : goal.invariant-loop-p
+invariant-loop-p l = record {
+  few : l.at ≤ line_room * l.p-index;
+  long : l.at ≡ length (pair_lines (take l.p-index l.pairs));
+  placed : l.out ≡ put 0 (pair_lines (take l.p-index l.pairs)) l.initial.out;
+}

@@ -1,10 +1,7 @@
 -- `close` meets its contract: 8, then 1, then whatever the side answers.
-use Rattle.std.proofs.Common.{ap, ◌∙◌}
+use Rattle.std.proofs.Common.{◌∙◌}
 use Rattle.std.proofs.lemmas.Result.{err_from_is_err_and}
-use Rattle.journal.specs.Answer.{answer_of}
-use Rattle.queue.specs.declared.Queue.{Queue}
-use Rattle.join.specs.Calls.{outcome, with_queue}
-use Rattle.join.proofs.Laws.{refused_close, judged_close}
+use Rattle.join.proofs.Laws.{beside_own, refused_close, judged_close}
 use Rattle.join.proofs.Join.close.Goals as goal
 
 pub returns-in_err-side : goal.returns-in_err-side
@@ -16,7 +13,5 @@ pub returns : goal.returns
 returns c =
     let s = c.args.self.now in
     let ok = c.in_ok-side.ensures.ok in
-    let after = c.close_on in
-    ap (λ (q : Queue). outcome (answer_of after.result) (with_queue q after.new.self)) after.ensures.queue
-    ∙ after.ensures.answer s.queue ok.2.holds_queue
-    ∙ judged_close s c.args.stream _ ok.1 ok.0
+    let after = c.close_on.ensures in
+    beside_own _ s _ _ after.queue (after.answer s.queue ok.2.holds_queue) ∙ judged_close s c.args.stream _ ok.1 ok.0
