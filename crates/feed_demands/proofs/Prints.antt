@@ -34,7 +34,8 @@ use Rattle.feed.specs.Reading.{reading}
 use Rattle.feed.proofs.Readings.{found_ends}
 use Rattle.framing.specs.Program.{next_of, deed, continued, printed_from, printed_by}
 use Rattle.lines.specs.Line.{line}
-use Rattle.steps.specs.Printed.{Progress, pair_line, pair_lines, done_word, open_word, end_line, refused_line, heard, onward, answered, joinfeed, printed}
+use Rattle.steps.specs.declared.Progress.{Progress}
+use Rattle.steps.specs.Printed.{pair_line, pair_lines, done_word, open_word, end_line, refused_line, heard, onward, answered, joinfeed, printed}
 use Rattle.feed_demands.specs.Records.{records_at, records_from, records_of, entry_in, entries_in, plain_in}
 use Rattle.feed_demands.specs.Course.{call_of, calls_of, Stop, FeedEnds, Refusal, Course, stops, goes_on, answered_by, course_at, course_from, course_of}
 use Rattle.feed_demands.specs.Prints.{world_of, standing, last_line, Prints}
@@ -127,24 +128,24 @@ ready_closed (Open clock) b e p = absurd (false≢true e)
 ready_closed Closed (Open clock) e p = absurd (false≢true e)
 ready_closed Closed Closed e p = refl
 
-none_waits : (s : State) → both_closed s.join ≡ true → ready_of s ≡ [] → waiting_in s ≡ []
-none_waits s closed none = sym (keep_all (ready_in s) (waiting_in s) (all_any (λ (p : Pair). ready_in s p ≡ true) (ready_closed s.join.a.journal.gate s.join.b.journal.gate closed) (waiting_in s))) ∙ none
+none_waits : (s : State) → both_closed s ≡ true → ready_of s ≡ [] → waiting_in s ≡ []
+none_waits s closed none = sym (keep_all (ready_in s) (waiting_in s) (all_any (λ (p : Pair). ready_in s p ≡ true) (ready_closed s.a.journal.gate s.b.journal.gate closed) (waiting_in s))) ∙ none
 
 fresh_none : (rule : Rule) → ready_now (begin rule) ≡ []
 unfolding fresh_state state_of
 fresh_none rule = refl
 
 -- a last line begins with `done` where the feed ends with both closed, and nowhere else
-says_done : (stop : Stop) (p : Progress) → IsPrefix done_word (last_line stop p) → (stop ≡ FeedEnds) × (both_closed p.state.join ≡ true)
+says_done : (stop : Stop) (p : Progress) → IsPrefix done_word (last_line stop p) → (stop ≡ FeedEnds) × (both_closed p.state ≡ true)
 unfolding end_line refused_line
-says_done FeedEnds p h = (refl, go (both_closed p.state.join) h)
+says_done FeedEnds p h = (refl, go (both_closed p.state) h)
   where
     go : (b : Bool) → IsPrefix done_word (cond b done_word open_word ++ line (p.records ∷ p.pairs ∷ [])) → b ≡ true
     go true k = refl
     go false k = absurd (let z : ◌≡◌ {A = ℕ} 100 111 = cc k.1 in omega arith)
 says_done (Refusal number) p h = absurd (let z : ◌≡◌ {A = ℕ} 100 114 = cc h.1 in omega arith)
 
-done_line : (w : World) (n : ℕ) → both_closed w.state.join ≡ true → end_line (standing n w) ≡ done_word ++ line (n ∷ length w.out ∷ [])
+done_line : (w : World) (n : ℕ) → both_closed w.state ≡ true → end_line (standing n w) ≡ done_word ++ line (n ∷ length w.out ∷ [])
 unfolding end_line
 done_line w n closed = rw closed
 

@@ -11,7 +11,8 @@ use Rattle.demands.specs.History.{Call, World, run}
 use Rattle.demands.specs.Takes.{ready_now}
 use Rattle.feed.specs.declared.Record.{Record}
 use Rattle.lines.specs.Line.{line}
-use Rattle.steps.specs.Printed.{Progress, pair_lines, done_word, end_line, refused_line, printed}
+use Rattle.steps.specs.declared.Progress.{Progress}
+use Rattle.steps.specs.Printed.{pair_lines, done_word, end_line, refused_line, printed}
 use Rattle.feed_demands.specs.Records.{records_of, entries_in, plain_in}
 use Rattle.feed_demands.specs.Course.{calls_of, Stop, FeedEnds, Refusal, Course, course_of}
 

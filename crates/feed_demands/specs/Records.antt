@@ -8,8 +8,7 @@ use Rattle.pairing.specs.declared.Side.TheVariants.{A, B}
 use Rattle.pairing.specs.Plain.{plain}
 use Rattle.join.specs.Calls.{side_of}
 use Rattle.demands.specs.History.{of_side}
-use Rattle.feed.specs.declared.Reading.{Reading}
-use Rattle.feed.specs.declared.Reading.TheVariants.{Found, Refused, End}
+use Rattle.feed.specs.Reading.{Reading, Found, Refused, End}
 use Rattle.feed.specs.declared.Record.{Record}
 use Rattle.feed.specs.declared.Record.TheVariants as record_of
 use Rattle.feed.specs.Reading.{reading}
