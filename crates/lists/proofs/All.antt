@@ -4,7 +4,7 @@ use native.Mathlib.Nat.{not-suc-le-zero, le_of_suc-le-suc}
 use native.Mathlib.Omega.{arith}
 use mathlib.Core.List.{List, [], ◌∷◌, ◌++◌, map}
 use mathlib.Core.Path.{◌≡◌, refl}
-use lib.ListN.{length, take, drop, get_or, replicate}
+use lib.ListN.{length, drop, get_or, replicate}
 
 module _ {A : Type 0} where
   abbrev pub All : (A → Type 0) → List A → Type 0
@@ -31,11 +31,6 @@ module _ {A : Type 0} where
   all_last : (P : A → Type 0) (xs : List A) (y : A) → All P (xs ++ (y ∷ [])) → P y
   all_last P [] y h = h.0
   all_last P (x ∷ xs) y h = all_last P xs y h.1
-
-  pub all_take : (P : A → Type 0) (n : ℕ) (xs : List A) → All P xs → All P (take n xs)
-  all_take P zero xs h = tt
-  all_take P (suc n) [] h = tt
-  all_take P (suc n) (x ∷ xs) h = (h.0, all_take P n xs h.1)
 
   pub all_drop : (P : A → Type 0) (n : ℕ) (xs : List A) → All P xs → All P (drop n xs)
   all_drop P zero xs h = h

@@ -1,15 +1,14 @@
 -- A test that passes whatever stands before something that it passes: what passes stands first.
-use Prim.Native.Nat.{ℕ, zero, suc, ◌+◌, ◌<◌}
-use native.Mathlib.Nat.{not-suc-le-zero, le_of_suc-le-suc}
+use Prim.Native.Nat.{suc, ◌+◌}
 use native.Mathlib.Omega.{arith}
 use mathlib.Core.Bool.{Bool, true, false, cond, not, true≢false}
-use mathlib.Core.List.{List, [], ◌∷◌, ◌++◌, append-nil}
+use mathlib.Core.List.{List, [], ◌∷◌, ◌++◌}
 use mathlib.Core.Path.{◌≡◌, refl, sym, ap, ◌∙◌}
-use lib.ListN.{length, take, drop, get_or, take-append-drop}
+use lib.ListN.{take}
 use Rattle.std.specs.Prelude.{filter}
 use Rattle.std.specs.List.{prefix_len}
 use Rattle.lists.proofs.All.{All, Each, all_map}
-use Rattle.lists.proofs.Keep.{keep_append, keep_all, keep_none}
+use Rattle.lists.proofs.Keep.{keep_all, keep_none}
 
 module _ {A : Type 0} (p : A → Bool) where
   -- x passes where y does
@@ -22,21 +21,6 @@ module _ {A : Type 0} (p : A → Bool) where
       go : (b : Bool) → p y ≡ b → p y ≡ false
       go true f = absurd (true≢false (sym (down f) ∙ e))
       go false f = f
-
-  -- from one that fails on, all fail
-  pub fails_on : (xs : List A) (k : ℕ) (d : A) → k < length xs → Each Down xs → p (get_or xs k d) ≡ false → All (λ (x : A). p x ≡ false) (drop k xs)
-  fails_on [] k d h e f = absurd (not-suc-le-zero h)
-  fails_on (x ∷ xs) zero d h e f = (f, all_map (Down x) (λ (y : A). p y ≡ false) (λ y i. fails x y f i) xs e.0)
-  fails_on (x ∷ xs) (suc k) d h e f = fails_on xs k d (le_of_suc-le-suc h) e.1 f
-
-  -- the first k pass and the rest fails
-  pub keep_first : (xs : List A) (k : ℕ) → All (λ (x : A). p x ≡ true) (take k xs) → All (λ (x : A). p x ≡ false) (drop k xs) → filter p xs ≡ take k xs
-  keep_first xs k h f =
-      ap (filter p) (sym (take-append-drop k xs))
-      ∙ keep_append p (take k xs) (drop k xs)
-      ∙ ap (λ (l : List A). l ++ filter p (drop k xs)) (keep_all p (take k xs) h)
-      ∙ ap (λ (l : List A). take k xs ++ l) (keep_none p (drop k xs) f)
-      ∙ append-nil (take k xs)
 
   -- what passes stands first, then what does not
   pub keep_split : (xs : List A) → Each Down xs → xs ≡ filter p xs ++ filter (λ (x : A). not (p x)) xs

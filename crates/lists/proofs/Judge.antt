@@ -1,15 +1,13 @@
--- Laws of `all_of` and `chain`: what a loop that looks at one element a turn learns of the whole.
-use Prim.Native.Nat.{ℕ, zero, suc, ◌+◌, ◌-◌, ◌≤◌, ◌<◌, max}
+-- Laws of `list_all` and `chain`: the facts in a test of a whole list, and what `is_sorted_by` answers.
+use Prim.Native.Nat.{ℕ, zero, suc, ◌+◌, ◌-◌, ◌≤◌, ◌<◌}
 use native.Mathlib.Omega.{arith}
 use native.Mathlib.Nat.{not-suc-le-zero, le_of_suc-le-suc}
 use native.Mathlib.Numerals.{add-one}
-use mathlib.Core.Bool.{Bool, true, false, ◌&&◌, and_assoc, and-true, and-false}
-use mathlib.Core.List.{List, [], ◌∷◌, ◌++◌, map}
+use mathlib.Core.Bool.{Bool, true, false, ◌&&◌, and-false}
+use mathlib.Core.List.{List, [], ◌∷◌, ◌++◌}
 use mathlib.Core.Path.{◌≡◌, refl, sym, ap, ◌∙◌}
-use lib.Dec.{leb}
-use lib.ListN.{length, replicate, take, drop, get_or, length-take}
-use lib.Seq.{slice, slice-cons, take-suc, take_all, drop-append-le}
-use borrow.Author.Tests.{leb-true, leb-false}
+use lib.ListN.{length, replicate, take, get_or, length-take}
+use lib.Seq.{slice, take-suc, drop-append-le}
 use Rattle.std.specs.List.{list_all, AllAdjacentBelow, IsAllAdjacentAnswer}
 use Rattle.std.specs.Fn.{Called, ComputesOnPairs}
 use Rattle.std.proofs.lemmas.List.Sorted.{answers_always}
@@ -26,32 +24,10 @@ module _ {A : Type 0} where
       let h : from ≤ length (take i l) = simp length-take (omega arith) in
       rw (add-one, take-suc l i d q) (drop-append-le from (take i l) (get_or l i d ∷ []) h)
 
-  all_of_append : (p : A → Bool) (xs ys : List A) → list_all p (xs ++ ys) ≡ list_all p xs && list_all p ys
-  all_of_append p [] ys = refl
-  all_of_append p (x ∷ xs) ys = ap (λ (b : Bool). p x && b) (all_of_append p xs ys) ∙ sym (and_assoc (p x) (list_all p xs) (list_all p ys))
-
-  pub all_of_more : (p : A → Bool) (l : List A) (from i : ℕ) (d : A) → from ≤ i → i < length l → list_all p (slice from i l) ≡ true → p (get_or l i d) ≡ true → list_all p (slice from (i + 1) l) ≡ true
-  all_of_more p l from i d h k e f = rw (slice_more l from i d h k, all_of_append p (slice from i l) (get_or l i d ∷ []), e, f)
-
   fails : (p : A → Bool) (xs : List A) (j : ℕ) (d : A) → j < length xs → p (get_or xs j d) ≡ false → list_all p xs ≡ false
   fails p [] j d h e = absurd (not-suc-le-zero h)
   fails p (x ∷ xs) zero d h e = rw e
   fails p (x ∷ xs) (suc j) d h e = rw (fails p xs j d (le_of_suc-le-suc h) e, and-false (p x))
-
-  pub all_of_fails : (p : A → Bool) (l : List A) (from i to : ℕ) (d : A) → from ≤ i → i < to → to ≤ length l → p (get_or l i d) ≡ false → list_all p (slice from to l) ≡ false
-  all_of_fails p l from i to d h k m e = go (i - from) from (omega arith) (omega arith)
-    where
-      go : (n at : ℕ) → at + n ≡ i → at < to → list_all p (slice at to l) ≡ false
-      go zero at f g = let same : i ≡ at = omega arith in rw (slice-cons at to l d g m, ← same, e)
-      go (suc n) at f g = rw (slice-cons at to l d g m, go n (suc at) (omega arith) (omega arith), and-false (p (get_or l at d)))
-
-  -- of all from a place on
-  pub all_of_rest : (p : A → Bool) (l : List A) (from i : ℕ) → length l ≤ i → list_all p (slice from i l) ≡ true → list_all p (drop from l) ≡ true
-  all_of_rest p l from i h e = ap (λ (t : List A). list_all p (drop from t)) (sym (take_all i l h)) ∙ e
-
-  pub all_of_rest_fails : (p : A → Bool) (l : List A) (from i : ℕ) (d : A) → from ≤ i → i < length l → p (get_or l i d) ≡ false → list_all p (drop from l) ≡ false
-  all_of_rest_fails p l from i d h k e =
-      ap (λ (t : List A). list_all p (drop from t)) (sym (take_all (length l) l (omega arith))) ∙ all_of_fails p l from i (length l) d h k (omega arith) e
 
   pub all_of_all : (p : A → Bool) (xs : List A) → list_all p xs ≡ true → All (λ (x : A). p x ≡ true) xs
   all_of_all p [] e = tt
@@ -65,20 +41,6 @@ module _ {A : Type 0} where
   all_of_replicate p zero z e = refl
   all_of_replicate p (suc n) z e = rw (e, all_of_replicate p n z e)
 
-  chain_from_more : (r : A → A → Bool) (x : A) (l : List A) (i : ℕ) (d : A) → i < length l
-      → chain_from r x (take (suc i) l) ≡ chain_from r x (take i l) && r (get_or (x ∷ l) i d) (get_or l i d)
-  chain_from_more r x [] i d h = absurd (not-suc-le-zero h)
-  chain_from_more r x (y ∷ l) zero d h = and-true (r x y)
-  chain_from_more r x (y ∷ l) (suc i) d h =
-      ap (λ (b : Bool). r x y && b) (chain_from_more r y l i d (le_of_suc-le-suc h)) ∙ sym (and_assoc (r x y) (chain_from r y (take i l)) (r (get_or (y ∷ l) i d) (get_or l i d)))
-
-  pub chain_more : (r : A → A → Bool) (l : List A) (i : ℕ) (d : A) → 0 < i → i < length l → chain r (take i l) ≡ true → r (get_or l (i - 1) d) (get_or l i d) ≡ true → chain r (take (i + 1) l) ≡ true
-  chain_more r [] i d z h e f = absurd (not-suc-le-zero h)
-  chain_more r (x ∷ l) zero d z h e f = absurd (not-suc-le-zero z)
-  chain_more r (x ∷ l) (suc i) d z h e f =
-      let down : suc i - 1 ≡ i = omega arith in
-      rw (add-one (suc i), chain_from_more r x l i d (le_of_suc-le-suc h), e) (rw down at f)
-
   chain_from_fails : (r : A → A → Bool) (x : A) (xs : List A) (j : ℕ) (d : A) → j < length xs → r (get_or (x ∷ xs) j d) (get_or xs j d) ≡ false → chain_from r x xs ≡ false
   chain_from_fails r x [] j d h e = absurd (not-suc-le-zero h)
   chain_from_fails r x (y ∷ ys) zero d h e = rw e
@@ -90,21 +52,6 @@ module _ {A : Type 0} where
   chain_fails r (x ∷ xs) (suc i) d z h e =
       let down : suc i - 1 ≡ i = omega arith in
       chain_from_fails r x xs i d (le_of_suc-le-suc h) (rw down at e)
-
-  -- a list of at most one element is in order
-  pub chain_short : (r : A → A → Bool) (l : List A) (n : ℕ) → n ≤ 1 → chain r (take n l) ≡ true
-  chain_short r l zero h = refl
-  chain_short r [] (suc n) h = refl
-  chain_short r (x ∷ l) (suc zero) h = refl
-  chain_short r (x ∷ l) (suc (suc n)) h = absurd (not-suc-le-zero (le_of_suc-le-suc h))
-
-  -- at the end of a loop from 1 on, i is n or there is at most one element
-  pub chain_end : (r : A → A → Bool) (l : List A) (n i : ℕ) → n ≤ i → i ≤ max 1 n → chain r (take i l) ≡ true → chain r (take n l) ≡ true
-  chain_end r l n i h k e = go (leb n 1) refl
-    where
-      go : (b : Bool) → leb n 1 ≡ b → chain r (take n l) ≡ true
-      go true f = chain_short r l n (leb-true n 1 f)
-      go false f = let same : n ≡ i = omega (arith, leb-false n 1 f) in rw same e
 
   chain_answer : (r : A → A → Bool) (xs : List A) (b : Bool) → IsAllAdjacentAnswer (λ x y c. c ≡ r x y) xs b → b ≡ chain r xs
   chain_answer r xs true h = sym (all xs h)
@@ -148,19 +95,6 @@ module _ {A : Type 0} where
   pub each_chain : (r : A → A → Bool) (xs : List A) → Each (λ (y z : A). r y z ≡ true) xs → chain r xs ≡ true
   each_chain r [] h = refl
   each_chain r (x ∷ xs) h = each_chain_from r x xs h.0 h.1
-
-module _ {A B : Type 0} (f : A → B) where
-  pub all_of_map : (p : B → Bool) (xs : List A) → list_all p (map f xs) ≡ list_all (λ (x : A). p (f x)) xs
-  all_of_map p [] = refl
-  all_of_map p (x ∷ xs) = ap (λ (b : Bool). p (f x) && b) (all_of_map p xs)
-
-  chain_from_map : (r : B → B → Bool) (x : A) (xs : List A) → chain_from r (f x) (map f xs) ≡ chain_from (λ (x y : A). r (f x) (f y)) x xs
-  chain_from_map r x [] = refl
-  chain_from_map r x (y ∷ ys) = ap (λ (b : Bool). r (f x) (f y) && b) (chain_from_map r y ys)
-
-  pub chain_map : (r : B → B → Bool) (xs : List A) → chain r (map f xs) ≡ chain (λ (x y : A). r (f x) (f y)) xs
-  chain_map r [] = refl
-  chain_map r (x ∷ xs) = chain_from_map r x xs
 
 -- ---- places that are judged: the count, what they hold, its order, and the spare ones
 

@@ -1,14 +1,13 @@
 -- Laws of `filter` and `tally`.
-use Prim.Native.Nat.{ℕ, suc, ◌+◌, ◌-◌, ◌≤◌, ◌<◌}
-use native.Mathlib.Numerals.{add-one}
+use Prim.Native.Nat.{ℕ, suc, ◌+◌, ◌-◌, ◌≤◌}
 use native.Mathlib.Omega.{arith}
 use mathlib.Core.Bool.{Bool, true, false, cond, true≢false, Bool-discrete}
 use mathlib.Core.List.Perm
-use mathlib.Core.List.{List, [], ◌∷◌, ◌++◌, append-nil, map, flat_map, filter as filter_if, Perm}
+use mathlib.Core.List.{List, [], ◌∷◌, ◌++◌, map, flat_map, filter as filter_if, Perm}
 use mathlib.Core.Logic.{ite}
 use mathlib.Core.Path.{◌≡◌, refl, sym, ap, ◌∙◌}
-use lib.ListN.{length, take, drop, get_or, length-take, length-append}
-use lib.Seq.{take-suc, take-add}
+use lib.ListN.{length, take, drop, length-take, length-append}
+use lib.Seq.{take-add}
 use Rattle.std.specs.Prelude.{filter}
 use Rattle.lists.specs.Keep.{tally}
 use Rattle.lists.proofs.All.{All, Each}
@@ -37,23 +36,6 @@ module _ {A : Type 0} (p : A → Bool) where
       go : (b : Bool) → p x ≡ b → All (λ (y : A). p y ≡ true) (filter p xs) → All (λ (y : A). p y ≡ true) (cond b (x ∷ filter p xs) (filter p xs))
       go true e i = (e, i)
       go false e i = i
-
-  -- one element more is looked at: it is kept, or not
-  keep_take : (l : List A) (i : ℕ) (d : A) → i < length l → filter p (take (i + 1) l) ≡ filter p (take i l) ++ filter p (get_or l i d ∷ [])
-  keep_take l i d h = rw (add-one, take-suc l i d h, keep_append)
-
-  pub keep_more : (l : List A) (i : ℕ) (d : A) → i < length l → p (get_or l i d) ≡ true → filter p (take (i + 1) l) ≡ filter p (take i l) ++ (get_or l i d ∷ [])
-  keep_more l i d h e = rw (keep_take l i d h, e)
-
-  pub keep_same : (l : List A) (i : ℕ) (d : A) → i < length l → p (get_or l i d) ≡ false → filter p (take (i + 1) l) ≡ filter p (take i l)
-  keep_same l i d h e = rw (keep_take l i d h, e) (append-nil (filter p (take i l)))
-
-  -- so there is one more, or as many as before
-  pub kept_more : (l : List A) (i : ℕ) (d : A) → i < length l → p (get_or l i d) ≡ true → length (filter p (take i l)) + 1 ≡ length (filter p (take (i + 1) l))
-  kept_more l i d h e = sym (ap length (keep_more l i d h e) ∙ length-append (filter p (take i l)) (get_or l i d ∷ []))
-
-  pub kept_same : (l : List A) (i : ℕ) (d : A) → i < length l → p (get_or l i d) ≡ false → length (filter p (take i l)) ≡ length (filter p (take (i + 1) l))
-  kept_same l i d h e = ap length (sym (keep_same l i d h e))
 
   pub keep_length : (xs : List A) → length (filter p xs) ≤ length xs
   keep_length [] = omega arith

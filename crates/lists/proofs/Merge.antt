@@ -80,13 +80,13 @@ pub record Slid {A : Type 0} (r : A → A → Bool) (x : A) (l₀ : List A) (w g
   pub back : drop (k + gap - 1) l ≡ x ∷ (slice k w l₀ ++ drop (w + gap) l₀)
   pub placed : insert_by r x (take w l₀) ≡ take k l₀ ++ (x ∷ slice k w l₀)
 
-module _ {A : Type 0} (r : A → A → Bool) (strict : StrictOrder r) (x : A) where
-  -- x does not come before it
-  abbrev pub below : A → Bool
-  below y = not (r x y)
+-- x does not come before it
+abbrev pub below : {A : Type 0} (r : A → A → Bool) (x : A) → A → Bool
+below r x y = not (r x y)
 
+module _ {A : Type 0} (r : A → A → Bool) (strict : StrictOrder r) (x : A) where
   -- of an ascending list, those below x stand first
-  pub below_first : (l : List A) → Ascending r l → IsPartitionedBy below l
+  pub below_first : (l : List A) → Ascending r l → IsPartitionedBy (below r x) l
   below_first l a i j d h k e =
       let up : i < suc j = omega arith in
       ap not
@@ -94,7 +94,7 @@ module _ {A : Type 0} (r : A → A → Bool) (strict : StrictOrder r) (x : A) wh
       ∙ all_get_d (λ (y : A). r x y ≡ false) (take (suc j) l) i d (simp length-take (omega arith)) (not_before r strict x l j d k a (not-true (r x (get_or l j d)) e)))
 
   -- the place of x found, those above it moved up, and x set below them
-  pub slid : (l : List A) (w gap k : ℕ) → 0 < gap → w + gap ≤ length l → k ≤ w → IsPartitionPoint (λ y. below y ≡ true) (λ y. below y ≡ false) (take w l) k
+  pub slid : (l : List A) (w gap k : ℕ) → 0 < gap → w + gap ≤ length l → k ≤ w → IsPartitionPoint (λ y. below r x y ≡ true) (λ y. below r x y ≡ false) (take w l) k
       → Slid r x l w gap k (set (paste l (k + gap) (drop k l) (w - k)) (k + gap - 1) x)
   slid l w gap k some inside few point =
       let moved = paste l (k + gap) (drop k l) (w - k) in

@@ -13,12 +13,10 @@ use Rattle.queue.proofs.Queue.ready.Goals as goal
 
 pub returns : goal.returns
 returns c =
-    let ps = waiting c.args.self.now in
-    let test = ready c.args.a c.args.b in
     let all = ready_front c.args.self.now c.args.a c.args.b c.requires.1 in
     let front = count_from_yields_List c.take_while.result c.count.result c.count.ensures.ran
-    (YieldsList-from_take_while _ test (YieldsList-from_slice ps cc) c.take_while.ensures.closure c.take_while.ensures.done (λ x b q k. search rules)) in
+    (YieldsList-from_take_while _ (ready c.args.a c.args.b) (YieldsList-from_slice (waiting c.args.self.now) cc) c.take_while.ensures.closure c.take_while.ensures.done (λ x b q k. search rules)) in
     record {
       value = front ∙ ap length (sym all);
-      first = ap (λ (k : ℕ). take k ps) (front ∙ length-prefix_len test ps) ∙ sym all;
+      first = ap (λ (k : ℕ). take k (waiting c.args.self.now)) (front ∙ length-prefix_len (ready c.args.a c.args.b) (waiting c.args.self.now)) ∙ sym all;
     }

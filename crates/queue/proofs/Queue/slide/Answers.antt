@@ -14,6 +14,6 @@ returns c =
     let l = c.args.self.now.places in
     let k = c.partition_point-k.result in
     let few : k ≤ c.args.w = search rules in
-    let point = IsPartitionPoint-from_clause (below comes_before strict_comes_before c.args.p) (take c.args.w l) k c.partition_point-k.ensures.partitioned
+    let point = IsPartitionPoint-from_clause (below comes_before c.args.p) (take c.args.w l) k c.partition_point-k.ensures.partitioned
     (below_first comes_before strict_comes_before c.args.p (take c.args.w l) c.requires.2) (λ a r f' q. search rules) in
     (refl, rw c.copy_within.ensures.after (slid comes_before strict_comes_before c.args.p l c.args.w c.args.gap k c.requires.0 (search rules) few point))
