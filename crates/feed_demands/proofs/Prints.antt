@@ -27,8 +27,7 @@ use Rattle.demands.specs.History.{Call, World, begin, run}
 use Rattle.demands.specs.Takes.{ready_now}
 use Rattle.demands.proofs.Demands.{run_append, demands}
 use Rattle.demands.proofs.Reached.{sound_run}
-use Rattle.feed.specs.declared.Reading.{Reading}
-use Rattle.feed.specs.declared.Reading.TheVariants.{Found, Refused as refused_reading, End}
+use Rattle.feed.specs.Reading.{Reading, Found, Refused as refused_reading, End}
 use Rattle.feed.specs.declared.Record.{Record}
 use Rattle.feed.specs.Reading.{reading}
 use Rattle.feed.proofs.Readings.{found_ends}

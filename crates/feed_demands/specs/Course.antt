@@ -4,8 +4,7 @@ use Rattle.pairing.specs.declared.Rule.{Rule}
 use Rattle.journal.specs.Answer.{Answer, Accepted, Refused}
 use Rattle.demands.specs.History.{Call, Enter, Mark, Close, Take, World, begin, run}
 use Rattle.demands.specs.Takes.{ready_now}
-use Rattle.feed.specs.declared.Reading.{Reading}
-use Rattle.feed.specs.declared.Reading.TheVariants.{Found, Refused as refused_reading, End}
+use Rattle.feed.specs.Reading.{Reading, Found, Refused as refused_reading, End}
 use Rattle.feed.specs.declared.Record.{Record}
 use Rattle.feed.specs.declared.Record.TheVariants as record_of
 use Rattle.feed.specs.Reading.{reading}

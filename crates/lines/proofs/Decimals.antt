@@ -1,5 +1,5 @@
 -- Laws of `decimal`: how many digits a number has, and which.
-use Prim.Native.Nat.{ℕ, zero, suc, ◌+◌, ◌*◌, ◌/◌, ◌^◌, ◌≤◌, ◌<◌}
+use Prim.Native.Nat.{ℕ, zero, suc, ◌/◌, ◌^◌, ◌≤◌, ◌<◌}
 use native.Mathlib.Nat.{pow-suc, one-le-pow, le-div_iff_mul-le, div-lt_iff_lt-mul}
 use native.Mathlib.Omega.{arith}
 use mathlib.Core.Bool.{Bool, true, false, cond}
@@ -75,16 +75,6 @@ decimal_few n (suc k) h some = decimal_in_few 20 k n h
 pub decimal_many : (n k : ℕ) → k < 20 → 10 ^ k ≤ n → k < length (decimal n)
 unfolding decimal
 decimal_many n k less h = decimal_in_many 20 k n less h
-
--- so from ten to the power k up to the next
-pub decimal_places : (n k : ℕ) → 10 ^ k ≤ n → n < 10 * 10 ^ k → k < 20 → length (decimal n) ≡ k + 1
-decimal_places n k low high less =
-    let many = decimal_many n k less low in
-    let few = decimal_few n (suc k) (omega (arith, pow-suc 10 k)) (omega arith) in
-    omega arith
-
-pub decimal_zero : (n : ℕ) → n ≡ 0 → length (decimal n) ≡ 1
-decimal_zero n e = omega (arith, decimal_some n, decimal_few n 1 (rw e (lit< tt)) (lit< tt))
 
 decimal_in_below : (m n : ℕ) → n < 10 ^ m → n < 10 ^ length (decimal_in m n)
 decimal_in_below zero n h = h

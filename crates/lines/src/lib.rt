@@ -18,12 +18,21 @@ pub fn put_text(out: &mut [u8], at: usize, text: &[u8])
     out[at..at + text.len()].copy_from_slice(text);
 }
 
+// A 64-bit number has at most so many digits.
+const MOST_DIGITS: usize = 20;
+
 // How many digits a number has.
-#[tactic(auto, using(crate::proofs::Decimals::decimal_places, crate::proofs::Decimals::decimal_zero))]
 fn places(n: u64) -> usize
     ensures { result ≡ length (decimal n) }
 {
-    n.checked_ilog10().map_or(1, |power| power as usize + 1)
+    let mut limit: u64 = 1;
+    for k in 1..MOST_DIGITS {
+        limit *= 10;
+        if n < limit {
+            return k;
+        }
+    }
+    MOST_DIGITS
 }
 
 // A number in decimal from a place on, and a byte behind it; answers the place behind both.

@@ -8,7 +8,7 @@ use lib.Dec.{leb}
 use lib.ListN.{length}
 use borrow.Author.Tests.{leb-true}
 use Rattle.lists.specs.Put.{put}
-use Rattle.whole_feed.specs.declared.Printing.TheVariants.{Filled, TooShort}
+use Rattle.whole_feed.specs.Printing.{Filled, TooShort}
 use Rattle.whole_feed.specs.Printing.{Printout, printout, fitted}
 
 pub filled_few : (text out buffer : List ℕ) (size : ℕ) → printout (Filled size) buffer ≡ fitted text out → size ≤ length out

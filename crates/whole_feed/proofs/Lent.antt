@@ -6,7 +6,7 @@ use mathlib.Core.List.{List, [], ◌∷◌, ◌++◌}
 use mathlib.Core.Path.{◌≡◌, refl, ap, ◌∙◌}
 use lib.ListN.{length}
 use Rattle.lists.specs.Put.{put}
-use Rattle.whole_feed.specs.declared.Printing.TheVariants.{Filled, TooShort}
+use Rattle.whole_feed.specs.Printing.{Filled, TooShort}
 use Rattle.whole_feed.specs.Printing.{printout, fitted}
 
 -- a part of no byte that is given back changes nothing
