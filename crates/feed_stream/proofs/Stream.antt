@@ -15,10 +15,9 @@ use Rattle.std.proofs.KnownBytes.{Appends-nil, Appends-trans}
 use Rattle.std.proofs.lemmas.List.{drop-append-le, drop-take}
 use Rattle.feed.specs.Reading.{shows, reading}
 use Rattle.feed.proofs.Fields.{drop_first}
-use Rattle.framing.specs.declared.Went.TheVariants.{More, On, Ended}
 use Rattle.framing.specs.Shown.{shown, tells}
 use Rattle.framing.specs.Program.{Deed, Ends, Goes, Program, deed, printed_from, printed_by}
-use Rattle.framing.specs.Step.{Effect, effect_of, done, waits, stepped}
+use Rattle.framing.specs.Step.{More, On, Ended, Effect, effect_of, done, waits, stepped}
 use Rattle.framing.specs.Windows.{Window, bytes_in, ends_in}
 use Rattle.framing.proofs.Moves.{moves, on_is_not_more, ended_is_not_more}
 use Rattle.framing.proofs.Text.{Next, next_done}

@@ -3,17 +3,17 @@ use Rattle.std.proofs.Common.{IfSome}
 use Rattle.pairing.specs.declared.Rule.TheVariants.{Equal}
 use Rattle.pipe.proofs.Loop.{Piped, remaining}
 use Rattle.steps.specs.Printed.{joinfeed, printed}
-use Rattle.steps.specs.Step.{progress_with, Kept, room}
+use Rattle.steps.specs.Step.{Kept, room}
 use Rattle.feed_stream.proofs.Stream.{Streamed}
 use Rattle.feed_stream.proofs.join_input.Given as goal
 
-abbrev pub invariant-loop-input : goal.invariant-loop-input
-invariant-loop-input g l =
+abbrev pub invariant-loop-flow : goal.invariant-loop-flow
+invariant-loop-flow g l =
     record {
-      kept : Kept (progress_with l.join l.a l.b l.rows l.counts) l.flow.left;
+      kept : Kept l.run l.flow.left;
       piped : Piped l.flow l.window l.out room;
-      streamed : IfSome (g.R.Read.remaining l.fn.input) (λ feed. Streamed joinfeed (printed Equal l.limit feed) l.limit feed l.flow l.window l.out (progress_with l.join l.a l.b l.rows l.counts) (g.R.Read.remaining l.input) (g.W.Write.contents l.fn.output) (g.W.Write.contents l.output));
+      streamed : IfSome (g.R.Read.remaining l.fn.input) (λ feed. Streamed joinfeed (printed Equal l.limit feed) l.limit feed l.flow l.window l.out l.run (g.R.Read.remaining l.input) (g.W.Write.contents l.fn.output) (g.W.Write.contents l.output));
     }
 
-abbrev pub decreases-loop-input : goal.decreases-loop-input
-decreases-loop-input g l = remaining l.flow
+abbrev pub decreases-loop-flow : goal.decreases-loop-flow
+decreases-loop-flow g l = remaining l.flow

@@ -9,13 +9,13 @@ use Rattle.framing.specs.Step.{stepped}
 use Rattle.framing.proofs.Moves.{moves}
 use Rattle.framing.proofs.Parts.{part_drop, drop_back, part_slice}
 use Rattle.steps.specs.Printed.{joinfeed}
-use Rattle.steps.specs.Step.{effect_with, progress_with}
+use Rattle.steps.specs.Step.{effect_with}
 use Rattle.feed_stream.proofs.step_on.Goals as goal
 
-pub returns-clause-used_le_left : goal.returns-clause-used_le_left
-returns-clause-used_le_left c =
+pub returns-clause-bounds : goal.returns-clause-bounds
+returns-clause-bounds c =
     let a = c.args in
-    let flow = a.flow in
+    let flow = a.flow.now in
     let order = c.requires.1 in
     let within = c.requires.2 in
     let enough = c.requires.3 in
@@ -30,17 +30,17 @@ returns-clause-used_le_left c =
 pub returns-clause-out_after : goal.returns-clause-out_after
 returns-clause-out_after c =
     let a = c.args in
-    let flow = a.flow in
+    let flow = a.flow.now in
     let order = c.requires.1 in
     let within = c.requires.2 in
     let enough = c.requires.3 in
     let out = a.out.now in
     let window = a.window.now in
     let t = c.step in
-    let p = progress_with a.join a.a.now a.b.now a.rows.now a.counts in
+    let p = a.run.now in
     let free : take (length out - flow.filled) (drop flow.filled out) ≡ drop flow.filled out = part_drop flow.filled out (omega arith) in
     let part : take (flow.end - flow.at) (drop flow.at window) ≡ slice flow.at flow.end window = part_slice flow.at flow.end window (omega arith) in
-    ap (effect_with t.result t.new.a t.new.b t.new.rows) (drop_back flow.filled out (omega arith) t.new.out)
+    ap (effect_with t.result t.new.self) (drop_back flow.filled out (omega arith) t.new.out)
     ∙ t.ensures.out_after
     ∙ ap (λ (l : List ℕ). stepped joinfeed p flow.left l flow.ended (take (length out - flow.filled) (drop flow.filled out))) part
     ∙ ap (stepped joinfeed p flow.left (slice flow.at flow.end window) flow.ended) free
