@@ -1,11 +1,11 @@
 -- Laws of fields: where each stands, counted from the record's first byte; and that packing and unpacking undo each other, over any widths.
-use Prim.Native.Nat.{ℕ, zero, suc, ◌+◌, ◌-◌, ◌≤◌}
-use native.Mathlib.Nat.{zero-add, suc-add}
+use Prim.Native.Nat.{ℕ, ◌+◌, ◌-◌, ◌≤◌}
 use native.Mathlib.Omega.{arith}
 use mathlib.Core.List.{List, [], ◌∷◌, ◌++◌, append_assoc}
 use mathlib.Core.Path.{◌≡◌, refl, ap, ◌∙◌}
 use lib.ListN.{length, take, drop, length-drop}
-use lib.Seq.{drop-drop, take-add, take_at, drop_at, take-take, take-nil}
+use lib.Seq.{drop-drop, take-add, take_at, drop_at, take-take}
+use Rattle.std.proofs.lemmas.List.{drop-take}
 use Rattle.feed.specs.Number.{value, bytes, Bytes}
 use Rattle.feed.specs.Kind.{entry, mark, pair, packed, Room, unpacked, fields_in}
 use Rattle.feed.proofs.Numbers.{bytes_length, value_bytes, bytes_drop, bytes_value_take}
@@ -51,15 +51,10 @@ packed_unpacked (width ∷ widths) bs h k =
     rw (bytes_value_take width bs h (omega arith), packed_unpacked widths (drop width bs) (bytes_drop width bs h) rest, take-add width (total widths) bs)
 
 -- bytes behind the fields do not matter
-pub drop_take : (m n : ℕ) (bs : List ℕ) → drop m (take (m + n) bs) ≡ take n (drop m bs)
-drop_take zero n bs = rw zero-add
-drop_take (suc m) n [] = rw (suc-add, take-nil)
-drop_take (suc m) n (b ∷ bs) = rw suc-add (drop_take m n bs)
-
 pub drop_first : (m n : ℕ) (bs : List ℕ) → m ≤ n → drop m (take n bs) ≡ take (n - m) (drop m bs)
 drop_first m n bs h =
     let split : n ≡ m + (n - m) = omega arith in
-    ap (λ (k : ℕ). drop m (take k bs)) split ∙ drop_take m (n - m) bs
+    ap (λ (k : ℕ). drop m (take k bs)) split ∙ drop-take m (n - m) bs
 
 pub unpacked_take : (widths : List ℕ) (n : ℕ) (bs : List ℕ) → total widths ≤ n → unpacked widths (take n bs) ≡ unpacked widths bs
 unpacked_take [] n bs h = refl

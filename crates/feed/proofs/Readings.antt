@@ -4,8 +4,7 @@ use native.Mathlib.Omega.{arith}
 use mathlib.Core.Bool.{Bool, true, false, not}
 use mathlib.Core.List.{List, [], ◌∷◌}
 use mathlib.Core.Path.{◌≡◌, refl, sym}
-use lib.ListN.{length, take, drop, length-drop, drop_of_length-le}
-use lib.Seq.{take_all}
+use lib.ListN.{length, drop, length-drop, drop_of_length-le}
 use Rattle.feed.specs.declared.Feed.TheVariants.{Input, Output}
 use Rattle.feed.specs.Head.{Whole, Refused as refused_head, End as no_head, Head}
 use Rattle.feed.specs.declared.Record.{Record}
@@ -15,10 +14,6 @@ use Rattle.feed.specs.Kind.{kinds_of}
 use Rattle.lists.specs.Check.{◌gives◌, first_or}
 use Rattle.feed.specs.Record.{record_in, stream_known}
 use Rattle.feed.proofs.Heads.{inside_elim, Row, here, there, head_none, whole_elim, whole_row}
-
--- the part of a feed from a place to its end is what is left there
-pub rest_all : (s : List ℕ) (at : ℕ) → take (length s - at) (drop at s) ≡ drop at s
-rest_all s at = take_all (length s - at) (drop at s) (simp length-drop (omega arith))
 
 module _ (s : List ℕ) (at : ℕ) where
   pub reading_past : length s ≤ at → reading s at ≡ End

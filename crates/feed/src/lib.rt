@@ -8,7 +8,7 @@ ghost use Rattle.pairing.specs.Numbers.{pair_in};
 ghost use Rattle.feed.specs.Record.{entry_from, mark_from, close_from, record_in, stream_known};
 ghost use Rattle.feed.specs.Text.{text_at, IsStretch};
 ghost use Rattle.feed.specs.Head.{whole_head, head_seen};
-ghost use Rattle.feed.specs.Reading.{outside, shows, kind_checks, head_unless, head_of, reading_seen, reading, pair_reading};
+ghost use Rattle.feed.specs.Reading.{outside, shows, head_of, reading_seen, reading, pair_reading};
 
 use interval::Interval;
 use pairing::{Entry, Pair, Partner};
@@ -158,20 +158,8 @@ impl Feed {
         }
     }
 
-    // The checks of a record's kind, and of its length for the kind.
-    #[tactic(auto, unfolding(crate::specs::Reading::kind_checks, crate::specs::Reading::head_unless))]
-    fn whole(self, kind: u16, size: u16) -> Result<Option<Head>, Refusal>
-        ensures { head_seen result ≡ head_unless (kind_checks self kind size) kind size }
-    {
-        let row = self.row(kind).ok_or(Refusal::Kind)?;
-        if outside(size, row.shortest, row.longest) {
-            return Err(Refusal::Length);
-        }
-        Ok(Some(Head { kind, size }))
-    }
-
-    // The checks that both feeds share, on what is left of a feed.
-    #[tactic(auto, unfolding(crate::specs::Reading::head_of, crate::specs::Reading::head_unless, crate::specs::Reading::head_checks, crate::specs::Reading::outside))]
+    // The checks of what is left of a feed, in their order: those that both feeds share, then the kind, and the length for the kind.
+    #[tactic(auto, unfolding(crate::specs::Reading::head_of, crate::specs::Reading::head_unless, crate::specs::Reading::head_checks, crate::specs::Reading::kind_checks, crate::specs::Reading::outside))]
     fn head(self, s: &[u8]) -> Result<Option<Head>, Refusal>
         ensures { head_seen result ≡ head_of self s.now }
     {
@@ -189,7 +177,11 @@ impl Feed {
             return Err(Refusal::Cut);
         }
         let kind = get16(s, 2);
-        self.whole(kind, size)
+        let row = self.row(kind).ok_or(Refusal::Kind)?;
+        if outside(size, row.shortest, row.longest) {
+            return Err(Refusal::Length);
+        }
+        Ok(Some(Head { kind, size }))
     }
 }
 

@@ -4,15 +4,11 @@ use native.Mathlib.Omega.{arith}
 use mathlib.Core.List.{List, [], ◌++◌, append-nil}
 use mathlib.Core.Path.{◌≡◌, sym, ap, ◌∙◌}
 use lib.ListN.{length, take, drop, length-drop, take-append-drop, drop_of_length-le}
-use lib.Seq.{slice, take_all, drop_at, length-take-le}
+use lib.Seq.{slice, drop_at, length-take-le}
 use borrow.Rule.Slice.PartMut.{put_mid}
-use Rattle.feed.proofs.Fields.{drop_take}
+use Rattle.std.proofs.lemmas.List.{drop-take}
 
 module _ (at : ℕ) (l : List ℕ) (h : at ≤ length l) where
-  -- the part is what stands from its place on
-  pub part_drop : take (length l - at) (drop at l) ≡ drop at l
-  part_drop = take_all (length l - at) (drop at l) (simp length-drop (omega arith))
-
   -- what is given back stands from its place on
   pub drop_back : (ys : List ℕ) → drop at (put_mid at (length l - at) l ys) ≡ ys
   drop_back ys =
@@ -23,7 +19,7 @@ module _ (at : ℕ) (l : List ℕ) (h : at ≤ length l) where
 pub part_slice : (at end : ℕ) (l : List ℕ) → at ≤ end → take (end - at) (drop at l) ≡ slice at end l
 part_slice at end l h =
     let up : at + (end - at) ≡ end = omega arith in
-    sym (drop_take at (end - at) l) ∙ ap (λ (n : ℕ). drop at (take n l)) up
+    sym (drop-take at (end - at) l) ∙ ap (λ (n : ℕ). drop at (take n l)) up
 
 -- two lists whose parts before and behind a place are the same
 pub both_parts : (at : ℕ) (l m : List ℕ) → take at l ≡ take at m → drop at l ≡ drop at m → l ≡ m
