@@ -230,10 +230,10 @@ fn run_line(rt: &impl Print, join: &mut Join, line: Line) -> io::Result<()> {
             let waiting = join.queue.count;
             print!(rt; " Waiting: {waiting}.")
         }
-        Line::Pair(at) => {
-            let pair = join.queue.places[at];
-            print!(rt; " Pair {pair}.")
-        }
+        Line::Pair(at) => match join.queue.places.get(at) {
+            Some(pair) => print!(rt; " Pair {pair}."),
+            None => Ok(()),
+        },
         Line::Area => {
             let held = join.a.area.count;
             print!(rt; " Area A: {held}.")

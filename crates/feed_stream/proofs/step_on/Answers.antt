@@ -4,10 +4,10 @@ use mathlib.Core.List.{List}
 use mathlib.Core.Path.{◌≡◌, ap, ◌∙◌}
 use Prim.Native.Nat.{ℕ, ◌-◌}
 use lib.ListN.{length, take, drop, length-drop}
-use lib.Seq.{slice, length-take-le}
+use lib.Seq.{slice, length-take-le, take_all}
 use Rattle.framing.specs.Step.{stepped}
 use Rattle.framing.proofs.Moves.{moves}
-use Rattle.framing.proofs.Parts.{part_drop, drop_back, part_slice}
+use Rattle.framing.proofs.Parts.{drop_back, part_slice}
 use Rattle.steps.specs.Printed.{joinfeed}
 use Rattle.steps.specs.Step.{effect_with}
 use Rattle.feed_stream.proofs.step_on.Goals as goal
@@ -20,7 +20,7 @@ returns-clause-bounds c =
     let within = c.requires.2 in
     let enough = c.requires.3 in
     let m = moves _ _ _ _ _ _ _ c.step.ensures.out_after in
-    let free : take (length a.out.now - flow.filled) (drop flow.filled a.out.now) ≡ drop flow.filled a.out.now = part_drop flow.filled a.out.now (omega arith) in
+    let free : take (length a.out.now - flow.filled) (drop flow.filled a.out.now) ≡ drop flow.filled a.out.now = take_all (length a.out.now - flow.filled) (drop flow.filled a.out.now) (simp length-drop (omega arith)) in
     let as_lent : length (take (length a.out.now - flow.filled) (drop flow.filled a.out.now)) ≡ length a.out.now - flow.filled = ap length free ∙ length-drop flow.filled a.out.now in
     let shows : length (take (flow.end - flow.at) (drop flow.at a.window.now)) ≡ flow.end - flow.at = length-take-le _ _ (simp length-drop (omega arith)) in
     let in_window = m.in_window in
@@ -38,7 +38,7 @@ returns-clause-out_after c =
     let window = a.window.now in
     let t = c.step in
     let p = a.run.now in
-    let free : take (length out - flow.filled) (drop flow.filled out) ≡ drop flow.filled out = part_drop flow.filled out (omega arith) in
+    let free : take (length out - flow.filled) (drop flow.filled out) ≡ drop flow.filled out = take_all (length out - flow.filled) (drop flow.filled out) (simp length-drop (omega arith)) in
     let part : take (flow.end - flow.at) (drop flow.at window) ≡ slice flow.at flow.end window = part_slice flow.at flow.end window (omega arith) in
     ap (effect_with t.result t.new.self) (drop_back flow.filled out (omega arith) t.new.out)
     ∙ t.ensures.out_after
