@@ -7,7 +7,7 @@ use mathlib.Core.Path.{◌≡◌, refl, sym, ap, ◌∙◌}
 use lib.Dec.{leb, eqb}
 use lib.ListN.{length, replicate, drop, set, length-append}
 use lib.Seq.{drop-drop, length-take-le}
-use borrow.Author.Tests.{eqb-true}
+use borrow.Author.Tests.{eqb-true, leb-true}
 use borrow.Rule.Slice.PartMut.{put_mid}
 use Rattle.std.proofs.lemmas.List.Filters.{FiltersInPlace}
 use Rattle.std.specs.List.{list_all}
@@ -61,6 +61,12 @@ pub area_passes : (rule : Rule) (own : Journal) (other : Gate) (area : Area) →
     → Passes (leb area.count most) (list_all (sound_entry rule own other) (held area)) (chain follows (held area)) (list_all spare_entry (drop area.count area.places))
 unfolding sound_area
 area_passes rule own other area e = passes _ _ _ _ e
+
+-- so its places store just what it holds
+pub sound_holds : (rule : Rule) (own : Journal) (other : Gate) (area : Area) → length area.places ≡ places → sound_area rule own other area ≡ true → Holds area
+sound_holds rule own other area full e =
+    let all = area_passes rule own other area e in
+    spare_holds area (leb-true area.count most all.few_pass) full all.spare_pass
 
 module _ (area : Area) (h : Holds area) where
   pub holds_length : length area.places ≡ places

@@ -18,9 +18,6 @@ use Rattle.framing.specs.Program.{Deed, Ends, Goes, Program, next_of, deed}
 -- ---- what a deed leaves, where its lines are put out
 
 module _ {P : Type 0} (p : P) (out : List ℕ) (next : ℕ) (lines : List ℕ) (filled : ℕ) (buffer : List ℕ) (long : filled ≡ length lines) (same : buffer ≡ put 0 lines out) where
-  pub goes_effect : (q r : P) → q ≡ r → record { went = On; progress = q; used = next; filled = filled; buffer = buffer } ≡ effect_of p out next (Goes lines r)
-  goes_effect q r e = λ i. record { went = On; progress = e i; used = next; filled = long i; buffer = same i }
-
   pub ends_effect : (q : P) → q ≡ p → record { went = Ended; progress = q; used = 0; filled = filled; buffer = buffer } ≡ effect_of p out next (Ends lines)
   ends_effect q e = λ i. record { went = Ended; progress = e i; used = 0; filled = long i; buffer = same i }
 
@@ -34,11 +31,6 @@ module _ {P : Type 0} (program : Program P) (p : P) (left : ℕ) (window : List 
   pub step_reads : tells left window ended ≡ true → (r : Reading) → reading (shown left window) 0 ≡ r → stepped program p left window ended out ≡ done program p out r
   unfolding stepped
   step_reads telling r e = rw (telling, e)
-
-  -- a last line that was put out
-  pub step_ends : tells left window ended ≡ true → (r : Reading) → reading (shown left window) 0 ≡ r → (lines : List ℕ) → deed program p r ≡ Ends lines → (filled : ℕ) (buffer : List ℕ) → filled ≡ length lines → buffer ≡ put 0 lines out
-      → record { went = Ended; progress = p; used = 0; filled = filled; buffer = buffer } ≡ stepped program p left window ended out
-  step_ends telling r e lines last filled buffer long same = ends_effect p out (next_of r) lines filled buffer long same p refl ∙ ap (effect_of p out (next_of r)) (sym last) ∙ sym (step_reads telling r e)
 
   -- it keeps what every record that is accepted keeps, of where a run stands and how many bytes may still be read
   module _ (Kept : P → ℕ → Type 0) (kept : Kept p left)

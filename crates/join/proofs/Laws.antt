@@ -117,12 +117,6 @@ module _ (side : Side) (s : State) (answer : Answer) where
 -- ---- what rows answer
 
 module _ (s : State) (stream : ℕ) where
-  pub judged_unsound : sound s ≡ false → first_of (judge_rows s stream) ≡ Refused 8
-  judged_unsound e = rw e
-
-  pub judged_neither : sound s ≡ true → 1 < stream → first_of (judge_rows s stream) ≡ Refused 1
-  judged_neither e h = rw (e, lt-ltb 1 stream h)
-
   pub judged_passes : sound s ≡ true → stream ≤ 1 → first_of (judge_rows s stream) ≡ Accepted
   judged_passes e h = rw (e, le-ltb 1 stream h)
 
@@ -177,13 +171,6 @@ module _ (s : State) (h : queue.Holds s.queue) where
 
   pub one_waits : 0 < s.queue.count → waiting_in s ≡ get_or (waiting_in s) 0 queue.no_pair ∷ drop 1 (waiting_in s)
   one_waits few = drop-cons (waiting_in s) 0 queue.no_pair (omega (arith, ap (λ (w : Queue). w.count) (queue_waiting s.queue h)))
-
-pub take_none : (s : State) (closed : Bool) → closed ≡ both_closed s → waiting_in s ≡ [] → outcome (cond closed Finished Waiting) s ≡ take_on s
-take_none s closed e f = rw (f, ← e) (go closed)
-  where
-    go : (b : Bool) → outcome (cond b Finished Waiting) s ≡ outcome (cond b Finished Waiting) (after_take (cond b Finished Waiting) s)
-    go true = refl
-    go false = refl
 
 module _ (s : State) (p : Pair) (ps : List Pair) (e : waiting_in s ≡ p ∷ ps) where
   pub take_waits : ready_in s p ≡ false → outcome Waiting s ≡ take_on s

@@ -45,16 +45,6 @@ module _ {A : Type 0} (l₀ : List A) (k i : ℕ) (d : A) (behind : k ≤ i) (in
       ∙ get_or-drop (i - k) l₀ k d
       ∙ ap (λ (j : ℕ). get_or l₀ j d) f
 
-  pub move_step : set l (i - k) (get_or l i d) ≡ slice k (i + 1) l₀ ++ drop ((i + 1) - k) l₀
-  move_step =
-      let f : (i + 1) - k ≡ suc (i - k) = omega arith in
-      ap (λ (t : List A). set t (i - k) (get_or l i d)) (e ∙ ap (λ (t : List A). slice k i l₀ ++ t) (drop-cons l₀ (i - k) d (omega arith)))
-      ∙ set_at (slice k i l₀) (get_or l₀ (i - k) d) (drop (suc (i - k)) l₀) (get_or l i d) (i - k) moved_length
-      ∙ ap (λ (x : A). slice k i l₀ ++ (x ∷ drop (suc (i - k)) l₀)) moved_same
-      ∙ sym (append_assoc (slice k i l₀) (get_or l₀ i d ∷ []) (drop (suc (i - k)) l₀))
-      ∙ ap (λ (t : List A). t ++ drop (suc (i - k)) l₀) (sym (slice_more l₀ k i d behind inside))
-      ∙ ap (λ (m : ℕ). slice k (i + 1) l₀ ++ drop m l₀) (sym f)
-
 -- the stretch is in front, and zeros are written behind it
 pub moved_padded : {A : Type 0} (size n k : ℕ) (z : A) (l₀ l₁ l₂ : List A) → length l₀ ≡ size → n ≤ size → k ≤ n → drop n l₀ ≡ replicate (size - n) z
     → l₁ ≡ slice k n l₀ ++ drop (n - k) l₀ → l₂ ≡ take (n - k) l₁ ++ (replicate (n - (n - k)) z ++ drop n l₁) → l₂ ≡ pad_to size z (slice k n l₀)

@@ -8,7 +8,6 @@ pub mod Sort
 pub mod Grid
 pub mod Judge
 pub mod Store
-pub mod Array
 pub mod InPlace
 pub mod Merge
 pub mod First

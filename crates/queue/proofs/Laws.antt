@@ -9,7 +9,7 @@ use lib.Dec.{leb, eqb}
 use lib.ListN.{length, replicate, take, drop, length-drop}
 use lib.Seq.{slice, paste, drop-drop}
 use borrow.Author.Rules.{rules}
-use borrow.Author.Tests.{eqb-true}
+use borrow.Author.Tests.{eqb-true, leb-true}
 use borrow.Rule.Slice.PartMut.{put_mid}
 use Rattle.std.specs.List.{list_all, prefix_len}
 use Rattle.std.specs.Prelude.{filter}
@@ -86,6 +86,12 @@ pub queue_passes : (of_a of_b : ℕ) (queue : Queue) → sound_queue of_a of_b q
     → Passes (leb queue.count places) (list_all (sound_pair of_a of_b) (waiting queue)) (chain comes_before (waiting queue)) (list_all spare_pair (drop queue.count queue.places))
 unfolding sound_queue
 queue_passes of_a of_b queue e = passes _ _ _ _ e
+
+-- so its places store just what it holds
+pub sound_holds : (of_a of_b : ℕ) (queue : Queue) → length queue.places ≡ places → sound_queue of_a of_b queue ≡ true → Holds queue
+sound_holds of_a of_b queue full e =
+    let all = queue_passes of_a of_b queue e in
+    spare_holds queue (leb-true queue.count places all.few_pass) full all.spare_pass
 
 -- neighbours in order are all in order
 pub ascending_waiting : (queue : Queue) → chain comes_before (waiting queue) ≡ true → Ascending comes_before (waiting queue)

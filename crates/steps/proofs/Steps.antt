@@ -34,21 +34,6 @@ use Rattle.steps.proofs.Heard.{heard_kept}
 pub kept_begun : (rule : Rule) (limit : ℕ) → limit ≤ read_limit → Kept (begun rule) limit
 kept_begun rule limit few = record { sound = sound_fresh rule; few_records = omega arith; few_pairs = omega arith }
 
--- no more are ready than wait
-pub ready_count : (s : State) → queue.Holds s.queue → (length (ready_of s) ≤ s.queue.count) × (s.queue.count ≤ queue.places)
-ready_count s h =
-    let waits : length (waiting_in s) ≡ s.queue.count = ap (λ (q : Queue). q.count) (queue_waiting s.queue h) in
-    (omega (arith, keep_length (ready_in s) (waiting_in s)), h.few)
-
--- a drop of as many as are ready, and counts that have them and one record more
-pub onward_with : (p : Progress) (k : ℕ) → k ≡ length (ready_of p.state) → (s : State) (records pairs : ℕ) → s ≡ without k p.state → records ≡ p.records + 1 → pairs ≡ p.pairs + k
-    → record { state = s; records = records; pairs = pairs } ≡ onward p p.state
-onward_with p k e s records pairs f g h =
-    let same : s ≡ without (length (ready_of p.state)) p.state = f ∙ ap (λ (n : ℕ). without n p.state) e in
-    let more : records ≡ suc p.records = omega arith in
-    let longer : pairs ≡ p.pairs + length (ready_of p.state) = omega arith in
-    λ i. record { state = same i; records = more i; pairs = longer i }
-
 -- ---- a reading that finds no record
 
 -- and is not refused finds the end
