@@ -2,7 +2,7 @@
 use mathlib.Core.List.{List}
 use Prim.Native.Nat.{ℕ}
 use Rattle.std.specs.Prelude.{Option, Some, None}
-use mathlib.Core.Path.{◌≡◌, refl, ap}
+use mathlib.Core.Path.{◌≡◌, refl}
 use Rattle.unique.specs.Unique.{OneOutcome}
 use Rattle.unique.proofs.Equation.{agree}
 use Rattle.whole_feed.specs.Printing.{printing_of}
