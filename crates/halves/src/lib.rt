@@ -23,6 +23,7 @@ pub struct Half {
 }
 
 // What refuses an entry whatever is held: its journal alone, then a key that the rule does not allow.
+#[tactic(auto, using(crate::proofs::Laws::refused_alone, crate::proofs::Laws::refused_key, crate::proofs::Laws::refused_never))]
 fn first_answer(rule: Rule, journal: Journal, e: Entry) -> Result<(), Refusal>
     ensures { answer_of result ≡ first_of (own_rows journal e ++ key_rows rule e) }
 {
@@ -47,7 +48,13 @@ fn hold_wanted(area: &mut Area, x: Numbered, other: Gate)
 impl Half {
     // What refuses an entry for want of room, where it forms so many new pairs.
     #[tactic(auto, using(crate::proofs::Room::area_full, crate::proofs::Room::queue_full, crate::proofs::Room::queue_full_unwanted, crate::proofs::Room::free, crate::proofs::Room::free_unwanted))]
-    pub fn room_answer(&self, other: &Half, queue: &Queue, e: Entry, new: usize) -> Result<(), Refusal>
+    pub fn room_answer(
+        &self,
+        other: &Half,
+        queue: &Queue,
+        e: Entry,
+        new: usize,
+    ) -> Result<(), Refusal>
         requires { (queue.now.count ≤ the_queue.places) × (new ≤ the_area.places) }
         ensures { answer_of result ≡ first_of (room_for (wanted other.now.journal.gate e) self.now.area.count (queue.now.count + new)) }
     {
@@ -61,7 +68,15 @@ impl Half {
     }
 
     // An entry that nothing refuses: paired, then held if wanted, the other area cleared by its start.
-    pub fn admit(&mut self, other: &mut Half, queue: &mut Queue, rule: Rule, side: Side, e: Entry, new: usize)
+    pub fn admit(
+        &mut self,
+        other: &mut Half,
+        queue: &mut Queue,
+        rule: Rule,
+        side: Side,
+        e: Entry,
+        new: usize,
+    )
         requires stand { Stand (halves_with rule self.old other.old queue.old) }
         requires admitted { (first_of (own_rows self.old.journal e ++ key_rows rule e) ≡ Accepted) × (first_of (room_rows side (seen (halves_with rule self.old other.old queue.old)) e) ≡ Accepted) }
         requires counted { new ≡ length (formed side (seen (halves_with rule self.old other.old queue.old)) e) }
@@ -78,7 +93,14 @@ impl Half {
     }
 
     // An entry: refused whatever is held, refused for want of room, or admitted.
-    pub fn enter(&mut self, other: &mut Half, queue: &mut Queue, rule: Rule, side: Side, e: Entry) -> Result<(), Refusal>
+    pub fn enter(
+        &mut self,
+        other: &mut Half,
+        queue: &mut Queue,
+        rule: Rule,
+        side: Side,
+        e: Entry,
+    ) -> Result<(), Refusal>
         requires { Stand (halves_with rule self.old other.old queue.old) }
         ensures answer { answer_of result ≡ first_of (entry_rows side (seen (halves_with rule self.old other.old queue.old)) e) }
         ensures left { halves_with rule self.new other.new queue.new ≡ unless_refused (answer_of result) (halves_of (after_entry side (seen (halves_with rule self.old other.old queue.old)) e)) (halves_with rule self.old other.old queue.old) }

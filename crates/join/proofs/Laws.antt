@@ -7,12 +7,16 @@ use mathlib.Core.Path.{◌≡◌, refl, sym, ap, subst, ◌∙◌}
 use lib.ListN.{drop, get_or}
 use lib.Seq.{drop-cons}
 use borrow.Author.Tests.{le-ltb, lt-ltb}
+use Rattle.std.specs.Prelude.{Result, Ok, Err}
 use Rattle.lists.specs.Judge.{chain}
 use Rattle.lists.specs.Check.{Check}
 use Rattle.pairing.specs.declared.Pair.{Pair}
 use Rattle.pairing.specs.declared.Side.{Side}
 use Rattle.pairing.specs.declared.Side.TheVariants.{A, B}
 use Rattle.pairing.specs.Pair.{comes_before}
+use Rattle.refusals.specs.declared.Refusal.{Refusal}
+use Rattle.refusals.specs.Table.{number_of}
+use Rattle.refusals.proofs.Numbers.{same_number}
 use Rattle.journal.specs.declared.Gate.{Gate}
 use Rattle.journal.specs.Answer.{Answer, Accepted, Refused, first_of, unless_refused}
 use Rattle.journal.specs.Journal.{moved}
@@ -26,8 +30,10 @@ use Rattle.queue.proofs.Laws as queue-laws
 use Rattle.queue.proofs.Sound.{queue_waiting}
 use Rattle.halves.specs.View.{View, Halves, Stand, halves_with, seen, halves_of}
 use Rattle.halves.specs.Calls.{after_move, moved_half, cleared_half}
+use Rattle.join.specs.declared.Taken.{Taken}
+use Rattle.join.specs.declared.Taken.TheVariants as taken
 use Rattle.join.specs.State.{State, Sound, sound, seen_from, join_of, view, state_of}
-use Rattle.join.specs.Calls.{Handed, Waiting, Finished, outcome, called, judge_rows, waiting_in, ready_in, both_closed, after_take, take_on, without}
+use Rattle.join.specs.Calls.{Handed, Waiting, Finished, outcome, called, judge_rows, waiting_in, ready_in, both_closed, after_take, take_on, took_of, without}
 use Rattle.join.proofs.Facts.{sound_parts}
 
 -- ---- the state as a side sees it
@@ -125,3 +131,26 @@ pub take_first : (s : State) → queue.Holds s.queue → 0 < s.queue.count → (
     → outcome (Handed p) left ≡ take_on s
 take_first s h few p left e f g =
     (λ i. outcome (Handed (e i)) (f i)) ∙ take_hands s (get_or (waiting_in s) 0 queue.no_pair) (drop 1 (waiting_in s)) (one_waits s h few) (ap (ready_in s) (sym e) ∙ g)
+
+-- ---- a result is told by the answer to a take that it is
+
+pub same_taken : (x y : Taken) → took_of (Ok x) ≡ took_of (Ok y) → x ≡ y
+same_taken (taken.Handed p) (taken.Handed q) e = let same : p ≡ q = cc in cc
+same_taken (taken.Handed p) taken.Waiting e = cc
+same_taken (taken.Handed p) taken.Finished e = cc
+same_taken taken.Waiting (taken.Handed q) e = cc
+same_taken taken.Waiting taken.Waiting e = refl
+same_taken taken.Waiting taken.Finished e = cc
+same_taken taken.Finished (taken.Handed q) e = cc
+same_taken taken.Finished taken.Waiting e = cc
+same_taken taken.Finished taken.Finished e = refl
+
+pub same_took : (x y : Result Taken Refusal) → took_of x ≡ took_of y → x ≡ y
+same_took (Ok t) (Ok u) e = let same : t ≡ u = same_taken t u e in cc
+same_took (Ok (taken.Handed p)) (Err r) e = cc
+same_took (Ok taken.Waiting) (Err r) e = cc
+same_took (Ok taken.Finished) (Err r) e = cc
+same_took (Err r) (Ok (taken.Handed p)) e = cc
+same_took (Err r) (Ok taken.Waiting) e = cc
+same_took (Err r) (Ok taken.Finished) e = cc
+same_took (Err r) (Err s) e = let n : number_of r ≡ number_of s = cc in let same : r ≡ s = same_number r s n in cc

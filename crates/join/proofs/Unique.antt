@@ -1,21 +1,19 @@
--- The contract of each public call allows one answer, one join and one content of the places that it is lent.
-use Prim.Native.Nat.{◌≤◌}
+-- The contract of each public call allows one answer, and one join that it leaves.
+use native.Mathlib.Omega.{arith}
 use mathlib.Core.List.{[]}
-use mathlib.Core.Path.{◌≡◌}
-use lib.ListN.{replicate}
+use mathlib.Core.Path.{◌≡◌, ap}
+use Rattle.std.specs.Prelude.{Result, Ok}
 use Rattle.unique.specs.Unique.{OneResult, OneOutcome}
 use Rattle.unique.proofs.Equation.{one_by_equation, outcome_by_equation, agree}
-use Rattle.lists.specs.Store.{Rows}
-use Rattle.pairing.specs.Numbers.{pair_in}
-use Rattle.journal.specs.Answer.{Answer}
-use Rattle.queue.specs.declared.Queue.{Queue}
+use Rattle.refusals.specs.declared.Refusal.{Refusal}
+use Rattle.journal.specs.Answer.{Answer, answer_of}
+use Rattle.journal.proofs.Answers.{same_answer}
 use Rattle.queue.specs.Queue as queue
-use Rattle.halves.proofs.Unique.{spare_queue}
-use Rattle.join.specs.declared.Join.{Join}
-use Rattle.join.specs.declared.Called.{Called}
+use Rattle.queue.proofs.Sound.{holds_stored}
 use Rattle.join.specs.declared.Taken.{Taken}
-use Rattle.join.specs.State.{state_with}
-use Rattle.join.specs.Calls.{Outcome, outcome}
+use Rattle.join.specs.State.{State}
+use Rattle.join.specs.Calls.{Outcome, outcome, took_of, with_queue}
+use Rattle.join.proofs.Laws.{same_took, same_taken}
 use Rattle.join.proofs.side_of.Reads as side-of
 use Rattle.join.proofs.Join.fresh.Reads as fresh
 use Rattle.join.proofs.Join.both_closed.Reads as both-closed
@@ -31,6 +29,9 @@ use Rattle.join.proofs.Join.take_on.Reads as take_on
 use Rattle.join.proofs.Join.ready_on.Reads as ready_on
 use Rattle.join.proofs.Join.drop_on.Reads as drop-on
 
+abbrev Answered : Type 0
+Answered = Result (Unit {0}) Refusal
+
 one_side_of : OneResult side-of.Post
 one_side_of = one_by_equation _ _
 
@@ -43,44 +44,44 @@ one_both_closed = one_by_equation _ _
 one_sound : OneResult sound.Post
 one_sound κs args x y left other p q = agree p.0 q.0
 
-one_entry : OneOutcome {Seen = Outcome Answer} (λ κs r left. outcome r.answer (state_with r.join left.1.0.now left.1.1.0.now left.1.1.1.0.now)) entry.Post
-one_entry = outcome_by_equation _ _
+-- an answer and what is left are told by their outcome
+one_called : (x y : Answered) (s t : State) → outcome (answer_of x) s ≡ outcome (answer_of y) t → ◌≡◌ {A = Answered × State} (x, s) (y, t)
+one_called x y s t e = let same = same_answer x y (ap (λ (o : Outcome Answer). o.answer) e) in λ i. (same i, (e i).state)
 
-one_mark : OneOutcome {Seen = Called × (Rows × Rows)} (λ κs r left. (r, (left.1.0.now, left.1.1.0.now))) mark.Post
-one_mark κs args x y left other p q = let e = agree p q in λ i. (record { answer = (e i).answer; join = (e i).state.join }, ((e i).state.in_a, (e i).state.in_b))
+one_entry : OneOutcome {Seen = Answered × State} (λ κs r left. (r, left.0.now)) entry.Post
+one_entry κs args x y left other p q = one_called x y _ _ (agree p q)
 
-one_close : OneOutcome {Seen = Called × (Rows × Rows)} (λ κs r left. (r, (left.1.0.now, left.1.1.0.now))) close.Post
-one_close κs args x y left other p q = let e = agree p q in λ i. (record { answer = (e i).answer; join = (e i).state.join }, ((e i).state.in_a, (e i).state.in_b))
+one_mark : OneOutcome {Seen = Answered × State} (λ κs r left. (r, left.0.now)) mark.Post
+one_mark κs args x y left other p q = one_called x y _ _ (agree p q)
 
-one_take : OneOutcome {Seen = Taken × Rows} (λ κs r left. (r, left.1.1.1.0.now)) take.Post
-one_take κs args x y left other p q = let e = agree p q in λ i. (record { answer = (e i).answer; join = (e i).state.join }, (e i).state.rows)
+one_close : OneOutcome {Seen = Answered × State} (λ κs r left. (r, left.0.now)) close.Post
+one_close κs args x y left other p q = one_called x y _ _ (agree p q)
+
+one_take : OneOutcome {Seen = Result Taken Refusal × State} (λ κs r left. (r, left.0.now)) take.Post
+one_take κs args x y left other p q = let e = agree p q in let same = same_took x y (λ i. (e i).answer) in λ i. (same i, (e i).state)
 
 -- ---- the calls after judging
 
-one_entry_on : OneOutcome {Seen = Outcome Answer} (λ κs r left. outcome r.answer (state_with r.join left.1.0.now left.1.1.0.now left.1.1.1.0.now)) entry-on.Post
-one_entry_on = outcome_by_equation _ _
+one_entry_on : OneOutcome {Seen = Answered × State} (λ κs r left. (r, left.0.now)) entry-on.Post
+one_entry_on κs args x y left other p q = one_called x y _ _ (agree p q)
 
--- A mark and a close are told of the queue only how many pairs wait: they leave what they leave for any places that hold so many, and there are such.
-one_moved : (waiting : Queue) → waiting.count ≤ queue.places → (x y : Called) (a b a' b' : Rows) (z : Rows → Outcome Answer)
-    → ((rows : Rows) → queue.Holds waiting rows → outcome x.answer (state_with x.join a b rows) ≡ z rows)
-    → ((rows : Rows) → queue.Holds waiting rows → outcome y.answer (state_with y.join a' b' rows) ≡ z rows)
-    → ◌≡◌ {A = Called × (Rows × Rows)} (x, (a, b)) (y, (a', b'))
-one_moved waiting few x y a b a' b' z p q =
-    let rows = queue.rows_of (replicate waiting.count (pair_in [])) in
-    let e = agree (p rows (spare_queue waiting few)) (q rows (spare_queue waiting few)) in
-    λ i. (record { answer = (e i).answer; join = (e i).state.join }, ((e i).state.in_a, (e i).state.in_b))
+-- A mark and a close do not look at the queue: beside any queue they leave what they leave beside an empty one, and the queue as it was.
+one_moved : (x y : Answered) (s t : State) → outcome (answer_of x) (with_queue (queue.queue_of []) s) ≡ outcome (answer_of y) (with_queue (queue.queue_of []) t) → s.queue ≡ t.queue → ◌≡◌ {A = Answered × State} (x, s) (y, t)
+one_moved x y s t e f =
+    let same = same_answer x y (λ i. (e i).answer) in
+    λ i. (same i, record { rule = (e i).state.rule; a = (e i).state.a; b = (e i).state.b; queue = f i })
 
-one_mark_on : OneOutcome {Seen = Called × (Rows × Rows)} (λ κs r left. (r, (left.1.0.now, left.1.1.0.now))) (λ κs args r left. mark_on.Pre κs args × mark_on.Post κs args r left)
-one_mark_on κs args x y left other p q = one_moved args.0.queue p.0.2 x y _ _ _ _ _ p.1 q.1
+one_mark_on : OneOutcome {Seen = Answered × State} (λ κs r left. (r, left.0.now)) mark_on.Post
+one_mark_on κs args x y left other p q = let none = holds_stored [] (omega arith) in one_moved x y _ _ (agree (p.0 _ none) (q.0 _ none)) (agree p.1 q.1)
 
-one_close_on : OneOutcome {Seen = Called × (Rows × Rows)} (λ κs r left. (r, (left.1.0.now, left.1.1.0.now))) (λ κs args r left. close-on.Pre κs args × close-on.Post κs args r left)
-one_close_on κs args x y left other p q = one_moved args.0.queue p.0.2 x y _ _ _ _ _ p.1 q.1
+one_close_on : OneOutcome {Seen = Answered × State} (λ κs r left. (r, left.0.now)) close-on.Post
+one_close_on κs args x y left other p q = let none = holds_stored [] (omega arith) in one_moved x y _ _ (agree (p.0 _ none) (q.0 _ none)) (agree p.1 q.1)
 
-one_take_on : OneOutcome {Seen = Taken × Rows} (λ κs r left. (r, left.1.0.now)) take_on.Post
-one_take_on κs args x y left other p q = let e = agree (p [] []) (q [] []) in λ i. (record { answer = (e i).answer; join = (e i).state.join }, (e i).state.rows)
+one_take_on : OneOutcome {Seen = Taken × State} (λ κs r left. (r, left.0.now)) take_on.Post
+one_take_on κs args x y left other p q = let e = agree p q in let same = same_taken x y (λ i. (e i).answer) in λ i. (same i, (e i).state)
 
 one_ready_on : OneResult ready_on.Post
 one_ready_on κs args x y left other p q = agree p.0 q.0
 
-one_drop_on : OneOutcome {Seen = Join × Rows} (λ κs r left. (r, left.1.0.now)) drop-on.Post
-one_drop_on κs args x y left other p q = let e = agree (p [] []) (q [] []) in λ i. ((e i).join, (e i).rows)
+one_drop_on : OneOutcome {Seen = State} (λ κs r left. left.0.now) drop-on.Post
+one_drop_on = outcome_by_equation _ _

@@ -1,6 +1,7 @@
 -- Something holds of every element (`All`), or of every element and each after it (`Each`).
 use Prim.Native.Nat.{ℕ, zero, suc, ◌<◌}
 use native.Mathlib.Nat.{not-suc-le-zero, le_of_suc-le-suc}
+use native.Mathlib.Omega.{arith}
 use mathlib.Core.List.{List, [], ◌∷◌, ◌++◌, map}
 use mathlib.Core.Path.{◌≡◌, refl}
 use lib.ListN.{length, take, drop, get_or, replicate}
@@ -45,6 +46,10 @@ module _ {A : Type 0} where
   all_get_d P [] m d h k = absurd (not-suc-le-zero h)
   all_get_d P (x ∷ xs) zero d h k = k.0
   all_get_d P (x ∷ xs) (suc m) d h k = all_get_d P xs m d (le_of_suc-le-suc h) k.1
+
+  pub all_at : (P : A → Type 0) (xs : List A) → ((m : ℕ) (d : A) → m < length xs → P (get_or xs m d)) → All P xs
+  all_at P [] h = tt
+  all_at P (x ∷ xs) h = (h 0 x (omega arith), all_at P xs (λ m d l. h (suc m) d (omega arith)))
 
   -- all the same
   pub all_replicate : (z : A) (xs : List A) → All (λ (x : A). x ≡ z) xs → xs ≡ replicate (length xs) z

@@ -1,11 +1,13 @@
 -- A test that passes whatever stands before something that it passes: what passes stands first.
-use Prim.Native.Nat.{ℕ, zero, suc, ◌<◌}
+use Prim.Native.Nat.{ℕ, zero, suc, ◌+◌, ◌<◌}
 use native.Mathlib.Nat.{not-suc-le-zero, le_of_suc-le-suc}
+use native.Mathlib.Omega.{arith}
 use mathlib.Core.Bool.{Bool, true, false, cond, not, true≢false}
 use mathlib.Core.List.{List, [], ◌∷◌, ◌++◌, append-nil}
 use mathlib.Core.Path.{◌≡◌, refl, sym, ap, ◌∙◌}
 use lib.ListN.{length, take, drop, get_or, take-append-drop}
 use Rattle.std.specs.Prelude.{filter}
+use Rattle.std.specs.List.{prefix_len}
 use Rattle.lists.proofs.All.{All, Each, all_map}
 use Rattle.lists.proofs.Keep.{keep_append, keep_all, keep_none}
 
@@ -64,3 +66,12 @@ module _ {A : Type 0} (p : A → Bool) where
       go false s f =
           let none : filter p ys ≡ [] = keep_none p ys (all_map (Down y) (λ (z : A). p z ≡ false) (λ z i. fails y z s i) ys h.0) in
           cc
+
+  -- what passes is the front that does
+  pub keep_prefix : (xs : List A) → Each Down xs → filter p xs ≡ take (prefix_len p xs) xs
+  keep_prefix [] h = refl
+  keep_prefix (x ∷ xs) h = go (p x) refl (keep_prefix xs h.1)
+    where
+      go : (b : Bool) → p x ≡ b → filter p xs ≡ take (prefix_len p xs) xs → cond b (x ∷ filter p xs) (filter p xs) ≡ take (cond b (1 + prefix_len p xs) 0) (x ∷ xs)
+      go true e i = let up : 1 + prefix_len p xs ≡ suc (prefix_len p xs) = omega arith in rw up (ap {B = List A} (λ l. x ∷ l) i)
+      go false e i = keep_none p xs (all_map (Down x) (λ (y : A). p y ≡ false) (λ y j. fails x y e j) xs h.0)

@@ -4,7 +4,7 @@ use native.Mathlib.Omega.{arith}
 use mathlib.Core.Bool.{Bool, false}
 use mathlib.Core.List.{List, [], ◌∷◌, ◌++◌, append_assoc}
 use mathlib.Core.Path.{◌≡◌, sym, ap, ◌∙◌}
-use lib.ListN.{length, replicate, take, drop, set, get_or, length-append, length-replicate, length-drop, length-set, replicate-append-replicate}
+use lib.ListN.{length, replicate, take, drop, set, get_or, length-replicate, length-set, replicate-append-replicate}
 use lib.Seq.{slice, length-slice, drop-cons, get_or-drop, get_or-append-add, set_at, take_at, drop_at, take-set-le, drop-set-lt, drop-drop, drop-append-add}
 use Rattle.std.proofs.lemmas.List.Filters.{FiltersInPlace, FiltersInPlace-more_no}
 use Rattle.lists.specs.Store.{pad_to}
@@ -72,9 +72,6 @@ moved_padded {A} size n k z l₀ l₁ l₂ full few less rest e f =
     f
     ∙ ap (λ (t : List A). t ++ (replicate (n - (n - k)) z ++ drop n l₁)) front
     ∙ padded_part size n (n - (n - k)) z (slice k n l₀) (drop n l₁) (left ∙ rest) (omega (arith, part)) few
-
-pub moved_long : {A : Type 0} (n k : ℕ) (l₀ l₁ : List A) → n ≤ length l₀ → k ≤ n → l₁ ≡ slice k n l₀ ++ drop (n - k) l₀ → length l₁ ≡ length l₀
-moved_long n k l₀ l₁ few less e = ap length e ∙ length-append (slice k n l₀) (drop (n - k) l₀) ∙ omega (arith, length-slice k n l₀ few, length-drop (n - k) l₀)
 
 -- some elements in the place of fewer, with what stood behind them, are those elements padded
 pub padded_over : {A : Type 0} (size n m : ℕ) (z : A) (l₀ xs : List A) → drop n l₀ ≡ replicate (size - n) z → n ≤ m → m ≤ size → length xs ≡ m → xs ++ drop m l₀ ≡ pad_to size z xs

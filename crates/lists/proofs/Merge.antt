@@ -2,16 +2,20 @@
 use Prim.Native.Nat.{ℕ, zero, suc, ◌+◌, ◌-◌, ◌≤◌, ◌<◌}
 use native.Mathlib.Nat.{not-suc-le-zero, le_of_suc-le-suc}
 use native.Mathlib.Omega.{arith}
-use mathlib.Core.Bool.{Bool, true, false, cond, true≢false}
+use mathlib.Core.Bool.{Bool, true, false, cond, not, true≢false}
 use mathlib.Core.List.{List, [], ◌∷◌, ◌++◌, append_assoc, map, map-append}
 use mathlib.Core.Logic.{inl}
 use mathlib.Core.Path.{◌≡◌, refl, sym, ap, ◌∙◌}
-use lib.ListN.{length, take, drop, set, get_or, length-append, length-map, length-take, length-set, take-append-drop}
-use lib.Seq.{slice, slice-cons, slice_empty, drop-cons, get_or-take, take_all, take-take, take-set-le, drop-set-lt, get_or-set_same, lt-length-set}
+use lib.ListN.{length, take, drop, set, get_or, length-append, length-map, length-take, length-drop, length-set, take-append-drop}
+use lib.Seq.{slice, paste, drop-cons, drop_at, get_or-take, get_or-drop, length-take-le, length-paste, take_all, take-take, take-append-le, take-set-le, drop-set-lt, get_or-set_same, lt-length-set}
+use borrow.Author.Rules.{rules}
+use Rattle.std.specs.List.Sorted.{IsPartitionedBy, IsPartitionPoint}
+use Rattle.std.proofs.lemmas.Bool.{not-true}
+use Rattle.std.proofs.lemmas.Slice.{between_is}
 use Rattle.std.specs.Prelude.{filter}
 use Rattle.lists.specs.Keep.{last_place}
 use Rattle.lists.specs.Sort.{insert_by, insert_all_by}
-use Rattle.lists.proofs.All.{All, all_map, all_get_d, each_first, each_last}
+use Rattle.lists.proofs.All.{All, all_map, all_at, all_get_d, each_first, each_last}
 use Rattle.lists.proofs.Keep.{keep_fewer}
 use Rattle.lists.proofs.Last.{keep_last}
 use Rattle.lists.proofs.Order.{StrictOrder, Apart, Ascending}
@@ -68,14 +72,6 @@ module _ {A : Type 0} (r : A → A → Bool) (strict : StrictOrder r) where
 
 -- ---- one new element: the old ones that it comes before slide up by `gap`, and it goes in below them
 
--- the list while the old ones above k have been moved
-pub record Sliding {A : Type 0} (r : A → A → Bool) (x : A) (l₀ : List A) (w gap : ℕ) (l : List A) (k : ℕ) : Type 0 where
-  pub at_most : k ≤ w
-  pub long : length l ≡ length l₀
-  pub front : take k l ≡ take k l₀
-  pub back : drop (k + gap) l ≡ slice k w l₀ ++ drop (w + gap) l₀
-  pub above : All (λ (y : A). r x y ≡ true) (slice k w l₀)
-
 -- what one slide leaves: k of the first w are below x
 pub record Slid {A : Type 0} (r : A → A → Bool) (x : A) (l₀ : List A) (w gap k : ℕ) (l : List A) : Type 0 where
   pub at_most : k ≤ w
@@ -84,53 +80,60 @@ pub record Slid {A : Type 0} (r : A → A → Bool) (x : A) (l₀ : List A) (w g
   pub back : drop (k + gap - 1) l ≡ x ∷ (slice k w l₀ ++ drop (w + gap) l₀)
   pub placed : insert_by r x (take w l₀) ≡ take k l₀ ++ (x ∷ slice k w l₀)
 
-module _ {A : Type 0} (r : A → A → Bool) (x d : A) (l₀ : List A) (w gap : ℕ) (some : 0 < gap) (inside : w + gap ≤ length l₀) where
-  pub slide_start : Sliding r x l₀ w gap l₀ w
-  slide_start = record { at_most = omega arith; long = refl; front = refl; back = rw (slice_empty w l₀); above = rw (slice_empty w l₀) tt }
+module _ {A : Type 0} (r : A → A → Bool) (strict : StrictOrder r) (x : A) where
+  -- x does not come before it
+  abbrev pub below : A → Bool
+  below y = not (r x y)
 
-  module _ (l : List A) (k : ℕ) (s : Sliding r x l₀ w gap l k) where
-    slide_same : (j : ℕ) → j < k → get_or l j d ≡ get_or l₀ j d
-    slide_same j h = sym (get_or-take k l j d h) ∙ ap (λ (t : List A). get_or t j d) s.front ∙ get_or-take k l₀ j d h
+  -- of an ascending list, those below x stand first
+  pub below_first : (l : List A) → Ascending r l → IsPartitionedBy below l
+  below_first l a i j d h k e =
+      let up : i < suc j = omega arith in
+      ap not
+      (sym (ap (r x) (get_or-take (suc j) l i d up))
+      ∙ all_get_d (λ (y : A). r x y ≡ false) (take (suc j) l) i d (simp length-take (omega arith)) (not_before r strict x l j d k a (not-true (r x (get_or l j d)) e)))
 
-    pub slide_step : (j : ℕ) → k ≡ suc j → r x (get_or l j d) ≡ true → Sliding r x l₀ w gap (set l (j + gap) (get_or l j d)) j
-    slide_step j e t =
-        let h : j < k = omega arith in
-        let in-l : j + gap < length l = omega (arith, s.at_most, s.long) in
-        let same = slide_same j h in
-        let up : suc (j + gap) ≡ k + gap = omega arith in
-        let cut : slice j w l₀ ≡ get_or l₀ j d ∷ slice k w l₀ = slice-cons j w l₀ d (omega (arith, s.at_most)) (omega arith) ∙ ap (λ (m : ℕ). get_or l₀ j d ∷ slice m w l₀) (sym e) in
-        record {
-          at_most = omega (arith, s.at_most);
-          long = length-set l (j + gap) (get_or l j d) ∙ s.long;
-          front = take-set-le j l (j + gap) (get_or l j d) (omega arith) ∙ sym (take-take j k l (omega arith)) ∙ ap (take j) s.front ∙ take-take j k l₀ (omega arith);
-          back = drop-cons (set l (j + gap) (get_or l j d)) (j + gap) d (lt-length-set l (j + gap) (get_or l j d) in-l)
-              ∙ ap (λ (y : A). y ∷ drop (suc (j + gap)) (set l (j + gap) (get_or l j d))) (get_or-set_same l (j + gap) (get_or l j d) d in-l ∙ same)
-              ∙ ap (λ (t : List A). get_or l₀ j d ∷ t) (drop-set-lt (suc (j + gap)) l (j + gap) (get_or l j d) (omega arith) ∙ ap (λ (m : ℕ). drop m l) up ∙ s.back)
-              ∙ ap (λ (t : List A). t ++ drop (w + gap) l₀) (sym cut);
-          above = rw cut (ap (r x) (sym same) ∙ t, s.above);
-        }
-
-    -- it stops at the bottom, or at an element that x does not come before
-    pub slide_end : StrictOrder r → Ascending r (take w l₀) → ((m : ℕ) → k ≡ suc m → r x (get_or l m d) ≡ false) → Slid r x l₀ w gap k (set l (k + gap - 1) x)
-    slide_end strict sorted stop =
-        let in-l : k + gap - 1 < length l = omega (arith, s.at_most, s.long) in
-        let up : suc (k + gap - 1) ≡ k + gap = omega arith in
-        let low : take k (take w l₀) ≡ take k l₀ = take-take k w l₀ s.at_most in
-        record {
-          at_most = s.at_most;
-          long = length-set l (k + gap - 1) x ∙ s.long;
-          front = take-set-le k l (k + gap - 1) x (omega arith) ∙ s.front;
-          back = drop-cons (set l (k + gap - 1) x) (k + gap - 1) d (lt-length-set l (k + gap - 1) x in-l)
-              ∙ ap (λ (y : A). y ∷ drop (suc (k + gap - 1)) (set l (k + gap - 1) x)) (get_or-set_same l (k + gap - 1) x d in-l)
-              ∙ ap (λ (t : List A). x ∷ t) (drop-set-lt (suc (k + gap - 1)) l (k + gap - 1) x (omega arith) ∙ ap (λ (m : ℕ). drop m l) up ∙ s.back);
-          placed = insert_by_at r x (take w l₀) k (below k refl) s.above ∙ ap (λ (t : List A). t ++ (x ∷ slice k w l₀)) low;
-        }
-      where
-        below : (m : ℕ) → k ≡ m → All (λ (y : A). r x y ≡ false) (take m (take w l₀))
-        below zero e = tt
-        below (suc m) e =
-            not_before r strict x (take w l₀) m d (simp length-take (omega (arith, s.at_most))) sorted
-            (ap (r x) (get_or-take w l₀ m d (omega (arith, s.at_most)) ∙ sym (slide_same m (omega arith))) ∙ stop m e)
+  -- the place of x found, those above it moved up, and x set below them
+  pub slid : (l : List A) (w gap k : ℕ) → 0 < gap → w + gap ≤ length l → k ≤ w → IsPartitionPoint (λ y. below y ≡ true) (λ y. below y ≡ false) (take w l) k
+      → Slid r x l w gap k (set (paste l (k + gap) (drop k l) (w - k)) (k + gap - 1) x)
+  slid l w gap k some inside few point =
+      let moved = paste l (k + gap) (drop k l) (w - k) in
+      let part : w - k ≤ length (drop k l) = simp length-drop (omega arith) in
+      let long : length moved ≡ length l = length-paste l (k + gap) (drop k l) (w - k) (omega arith) part in
+      let at : k + gap - 1 < length moved = omega arith in
+      let up : suc (k + gap - 1) ≡ k + gap = omega arith in
+      let end : k + gap + (w - k) ≡ w + gap = omega arith in
+      let head : length (take (k + gap) l) ≡ k + gap = length-take-le (k + gap) l (omega arith) in
+      let some_w : length (take w l) ≡ w = length-take-le w l (omega arith) in
+      let parts = append_assoc (take (k + gap) l) (take (w - k) (drop k l)) (drop (k + gap + (w - k)) l) in
+      record {
+        at_most = few;
+        long = length-set moved (k + gap - 1) x ∙ long;
+        front = take-set-le k moved (k + gap - 1) x (omega arith)
+            ∙ ap (take k) parts
+            ∙ take-append-le k (take (k + gap) l) (take (w - k) (drop k l) ++ drop (k + gap + (w - k)) l) (omega arith)
+            ∙ take-take k (k + gap) l (omega arith);
+        back = drop-cons (set moved (k + gap - 1) x) (k + gap - 1) x (lt-length-set moved (k + gap - 1) x at)
+            ∙ ap (λ (y : A). y ∷ drop (suc (k + gap - 1)) (set moved (k + gap - 1) x)) (get_or-set_same moved (k + gap - 1) x x at)
+            ∙ ap (λ (t : List A). x ∷ t)
+            (drop-set-lt (suc (k + gap - 1)) moved (k + gap - 1) x (omega arith)
+            ∙ ap (λ (m : ℕ). drop m moved) up
+            ∙ ap (drop (k + gap)) parts
+            ∙ drop_at (take (k + gap) l) (take (w - k) (drop k l) ++ drop (k + gap + (w - k)) l) (k + gap) head
+            ∙ ap (λ (m : ℕ). take (w - k) (drop k l) ++ drop m l) end
+            ∙ ap (λ (t : List A). t ++ drop (w + gap) l) (search (rules, between_is)));
+        placed = insert_by_at r x (take w l) k
+            (all_at (λ (y : A). r x y ≡ false) (take k (take w l)) (λ m d h.
+            let inner : m < k = omega (arith, h, length-take k (take w l)) in
+            ap (r x) (get_or-take k (take w l) m d inner) ∙ not-true _ (point.0 m d (omega arith) inner)))
+            (all_at (λ (y : A). r x y ≡ true) (drop k (take w l)) (λ m d h.
+            ap (r x) (get_or-drop k (take w l) m d) ∙ not-false _ (point.1 (k + m) d (omega arith) (omega (arith, h, length-drop k (take w l))))))
+            ∙ ap (λ (t : List A). t ++ (x ∷ slice k w l)) (take-take k w l few);
+      }
+    where
+      not-false : (b : Bool) → not b ≡ false → b ≡ true
+      not-false true e = refl
+      not-false false e = absurd (true≢false e)
 
 -- ---- all the new elements: f of each source element that passes the test m, the sources taken from the last down
 

@@ -4,19 +4,18 @@ use native.Mathlib.Omega.{arith}
 use mathlib.Core.Bool.{true}
 use mathlib.Core.List.{List, []}
 use mathlib.Core.Logic.{inl}
-use mathlib.Core.Path.{◌≡◌, refl, ap, ◌∙◌}
+use mathlib.Core.Path.{◌≡◌, refl, sym, ◌∙◌}
 use lib.Dec.{ltb}
 use lib.ListN.{length, drop, length-drop}
 use borrow.Author.Tests.{ltb-true, lt-ltb, le-leb}
 use Rattle.interval.specs.Interval.{proper_of}
 use Rattle.lists.specs.Sort.{insert_all_by}
-use Rattle.lists.specs.Store.{Rows}
 use Rattle.lists.proofs.All.{All, Each, all_map, all_drop, each_map, each_drop}
 use Rattle.lists.proofs.Bools.{and_left, and_right}
-use Rattle.lists.proofs.Judge.{all_of_all, all_all_of, chain_each, each_chain}
+use Rattle.lists.proofs.Judge.{all_of_all, all_all_of, each_chain}
 use Rattle.lists.proofs.Order.{Apart, Ascending}
 use Rattle.lists.proofs.Sort.{insert_all_by_length, all_insert_all_by, insert_all_by_ascending}
-use Rattle.lists.proofs.Store.{content_length, content_stored, stores_stored, spare_stored}
+use Rattle.lists.proofs.Store.{pad_to_take, stores_stored, spare_stored}
 use Rattle.pairing.specs.declared.Numbered.{Numbered}
 use Rattle.pairing.specs.declared.Pair.{Pair}
 use Rattle.pairing.specs.declared.Rule.{Rule}
@@ -24,30 +23,24 @@ use Rattle.pairing.specs.declared.Side.{Side}
 use Rattle.pairing.specs.declared.Side.TheVariants.{A, B}
 use Rattle.pairing.specs.Pair.{comes_before}
 use Rattle.pairing.specs.Side.{new_pairs}
-use Rattle.pairing.specs.Numbers.{pair_in, pair_numbers}
-use Rattle.pairing.proofs.Numbers.{pair_numbers_lem}
 use Rattle.pairing.proofs.Arrival.{Later, new_pairs_ascending, own_in, other_in, apart_own, pair_from_own, pair_from_other, pair_from_proper, all_new_pairs}
 use Rattle.pairing.proofs.Pairs.{strict_comes_before}
 use Rattle.queue.specs.declared.Queue.{Queue}
-use Rattle.queue.specs.Queue.{places, width, waiting, queue_of, rows_of, Holds, sound_pair, sound_queue}
-use Rattle.queue.proofs.Laws.{queue_passes}
+use Rattle.queue.specs.Queue.{places, waiting, no_pair, queue_of, Holds, sound_pair, spare_pair, sound_queue}
+use Rattle.queue.proofs.Laws.{none_spare, queue_passes, ascending_waiting, waiting_length}
 
 -- ---- the queue that stores some pairs
 
 -- they wait in it
-pub waiting_stored : (ps : List Pair) → waiting (queue_of ps) (rows_of ps) ≡ ps
-waiting_stored ps = content_stored pair_in pair_numbers places width pair_numbers_lem ps (length ps) refl
+pub waiting_stored : (ps : List Pair) → waiting (queue_of ps) ≡ ps
+waiting_stored ps = pad_to_take places no_pair ps (length ps) refl
 
-pub holds_stored : (ps : List Pair) → length ps ≤ places → Holds (queue_of ps) (rows_of ps)
-holds_stored ps h = stores_stored pair_in pair_numbers places width pair_numbers_lem ps (length ps) refl h
+pub holds_stored : (ps : List Pair) → length ps ≤ places → Holds (queue_of ps)
+holds_stored ps h = stores_stored no_pair places ps (length ps) refl h
 
 -- it is the one in which they do
-module _ (queue : Queue) (rows : Rows) (h : Holds queue rows) where
-  waiting_length : length (waiting queue rows) ≡ queue.count
-  waiting_length = content_length pair_in pair_numbers places width queue.count rows h
-
-  pub queue_waiting : queue_of (waiting queue rows) ≡ queue
-  queue_waiting = ap (λ (n : ℕ). record { count = n }) waiting_length
+pub queue_waiting : (queue : Queue) → Holds queue → queue_of (waiting queue) ≡ queue
+queue_waiting queue h = λ i. record { count = waiting_length queue h i; places = sym h.same i }
 
 -- ---- the judge's tests as facts
 
@@ -91,18 +84,18 @@ module _ (of_a of_b : ℕ) where
   pair_judged p h = rw (h.proper, lt-ltb p.a.ordinal of_a h.ours, lt-ltb p.b.ordinal of_b h.theirs)
 
   -- what the judge passes
-  pub judged_waiting : (queue : Queue) (rows : Rows) → Holds queue rows → sound_queue of_a of_b queue rows ≡ true → SoundWaiting A of_a of_b (waiting queue rows)
-  judged_waiting queue rows h e =
-      let ps = waiting queue rows in
-      let all = queue_passes of_a of_b queue rows e in
+  pub judged_waiting : (queue : Queue) → Holds queue → sound_queue of_a of_b queue ≡ true → SoundWaiting A of_a of_b (waiting queue)
+  judged_waiting queue h e =
+      let ps = waiting queue in
+      let all = queue_passes of_a of_b queue e in
       record {
-        few = omega (arith, waiting_length queue rows h, h.few);
+        few = omega (arith, waiting_length queue h, h.few);
         sounds = all_map (λ (p : Pair). sound_pair of_a of_b p ≡ true) (SoundPair A of_a of_b) pair_facts ps (all_of_all (sound_pair of_a of_b) ps all.sounds_pass);
-        ascends = chain_each comes_before strict_comes_before.trans ps all.order_pass;
+        ascends = ascending_waiting queue all.order_pass;
       }
 
   -- passes the judge
-  pub waiting_judged : (ps : List Pair) → SoundWaiting A of_a of_b ps → sound_queue of_a of_b (queue_of ps) (rows_of ps) ≡ true
+  pub waiting_judged : (ps : List Pair) → SoundWaiting A of_a of_b ps → sound_queue of_a of_b (queue_of ps) ≡ true
   unfolding sound_queue
   waiting_judged ps h =
       rw (
@@ -110,7 +103,7 @@ module _ (of_a of_b : ℕ) where
         le-leb (length ps) places h.few,
         all_all_of (sound_pair of_a of_b) ps (all_map (SoundPair A of_a of_b) (λ (p : Pair). sound_pair of_a of_b p ≡ true) pair_judged ps h.sounds),
         each_chain comes_before ps h.ascends,
-        spare_stored pair_in pair_numbers places width pair_numbers_lem ps (length ps) refl,
+        spare_stored no_pair places ps (length ps) refl spare_pair none_spare,
       )
 
 -- ---- kept

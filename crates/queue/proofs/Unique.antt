@@ -1,10 +1,7 @@
--- The contract of each public function allows one result, and one content of the places that it is lent.
+-- The contract of each public function allows one result, and one queue after it.
 use Rattle.unique.specs.Unique.{OneResult, OneOutcome}
-use Rattle.unique.proofs.Equation.{one_by_equation, agree, agree_both}
-use Rattle.lists.specs.Store.{Rows}
+use Rattle.unique.proofs.Equation.{one_by_equation, agree}
 use Rattle.queue.specs.declared.Queue.{Queue}
-use Rattle.queue.proofs.pair_in.Reads as pair-in
-use Rattle.queue.proofs.no_places.Reads as no-places
 use Rattle.queue.proofs.is_ready.Reads as is-ready
 use Rattle.queue.proofs.Queue.fresh.Reads as fresh
 use Rattle.queue.proofs.Queue.first.Reads as first
@@ -12,12 +9,6 @@ use Rattle.queue.proofs.Queue.drop_first.Reads as drop_first
 use Rattle.queue.proofs.Queue.merge.Reads as merge
 use Rattle.queue.proofs.Queue.ready.Reads as ready
 use Rattle.queue.proofs.Queue.sound.Reads as sound
-
-one_pair_in : OneResult pair-in.Post
-one_pair_in = one_by_equation _ _
-
-one_no_places : OneResult no-places.Post
-one_no_places = one_by_equation _ _
 
 one_is_ready : OneResult is-ready.Post
 one_is_ready = one_by_equation _ _
@@ -28,11 +19,11 @@ one_fresh = one_by_equation _ _
 one_first : OneResult first.Post
 one_first = one_by_equation _ _
 
-one_drop_first : OneOutcome {Seen = Queue × Rows} (λ κs queue left. (queue, left.1.0.now)) drop_first.Post
-one_drop_first κs args x y left other p q = agree_both p q
+one_drop_first : OneOutcome {Seen = Queue} (λ κs result left. left.0.now) drop_first.Post
+one_drop_first κs args x y left other p q = agree p q
 
-one_merge : OneOutcome {Seen = Queue × Rows} (λ κs queue left. (queue, left.1.0.now)) merge.Post
-one_merge κs args x y left other p q = agree_both p q
+one_merge : OneOutcome {Seen = Queue} (λ κs result left. left.0.now) merge.Post
+one_merge κs args x y left other p q = agree p q
 
 one_ready : OneResult ready.Post
 one_ready κs args x y left other p q = agree p.0 q.0

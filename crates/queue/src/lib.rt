@@ -24,6 +24,7 @@ pub struct Queue {
 }
 
 // Does the pair start below the clock of every open journal?
+#[tactic(auto, unfolding(crate::specs::Queue::ready))]
 pub fn is_ready(p: Pair, a: Gate, b: Gate) -> bool
     ensures { result ≡ ready a b p }
 {
@@ -62,6 +63,13 @@ impl Queue {
         &self.places[..self.count]
     }
 
+    fn spare(&self) -> &[Pair]
+        requires { self.now.count ≤ places }
+        ensures { result.now ≡ drop self.now.count self.now.places }
+    {
+        &self.places[self.count..]
+    }
+
     // The first waiting pair.
     pub fn first(&self) -> Pair
         requires { (0 < self.now.count) × (Holds self.now) }
@@ -75,6 +83,9 @@ impl Queue {
         requires { (k ≤ self.old.count) × (Holds self.old) }
         ensures { self.new ≡ queue_of (drop k (waiting self.old)) }
     {
+        if k == 0 {
+            return;
+        }
         let n = self.count;
         self.places.copy_within(k..n, 0);
         self.places[n - k..n].fill(Pair::default());
@@ -86,15 +97,8 @@ impl Queue {
         requires { (0 < gap) × (w + gap ≤ places) × Ascending comes_before (take w self.old.places) }
         ensures { (self.new.count ≡ self.old.count) × Slid comes_before p self.old.places w gap result self.new.places }
     {
-        let mut k = w;
-        while k > 0 {
-            let q = self.places[k - 1];
-            if !p.comes_before(q) {
-                break;
-            }
-            self.places[k - 1 + gap] = q;
-            k -= 1;
-        }
+        let k = self.places[..w].partition_point(|q| !p.comes_before(*q));
+        self.places.copy_within(k..w, k + gap);
         self.places[k + gap - 1] = p;
         k
     }
@@ -106,12 +110,12 @@ impl Queue {
     {
         let mut i = area.count;
         let mut w = self.count;
-        let mut gap = new;
-        while gap > 0 {
+        // From the last new pair down, so that each waiting one moves once at the most.
+        for left in (0..new).rev() {
             i = area.last_partner(i, rule, x.entry);
-            let p = side.pair(x, area.entry_at(i));
-            w = self.slide(w, gap, p);
-            gap -= 1;
+            let y = area.entry_at(i);
+            let p = side.pair(x, y);
+            w = self.slide(w, left + 1, p);
         }
         self.count += new;
     }
@@ -149,10 +153,11 @@ impl Queue {
         requires { self.now.count ≤ places }
         ensures { result ≡ list_all spare_pair (drop self.now.count self.now.places) }
     {
-        self.places[self.count..].iter().all(|p| is_spare(*p))
+        self.spare().iter().all(|p| is_spare(*p))
     }
 
     // Is the state of the queue sound, beside the accepted counts of the journals? Then its places store just the waiting pairs.
+    #[tactic(auto, using(crate::proofs::Laws::spare_holds), unfolding(crate::specs::Queue::sound_queue))]
     pub fn sound(&self, of_a: u32, of_b: u32) -> bool
         ensures value { result ≡ sound_queue of_a of_b self.now }
         ensures holds { result ≡ true → Holds self.now }
