@@ -48,11 +48,11 @@ fn put_steps(rule: Rule, feed: &[u8], out: &mut [u8]) -> usize
 }
 
 // What is printed of a feed, joined by a rule: into the buffer from its first byte on, if it has room for all of it; answers how many bytes that are. It is counted first, so that a buffer that is too short is not touched.
-#[tactic(auto, using(crate::proofs::Lent::too_short, crate::proofs::Lent::none_back))]
+#[tactic(auto, unfolding(crate::specs::Printing::fitted))]
 pub fn print_feed(rule: Rule, feed: &[u8], out: &mut [u8]) -> Option<usize>
     ensures { printout (printing_of result) out.new ≡ printing rule feed.now out.old }
 {
-    let size = put_steps(rule, feed, &mut out[..0]);
+    let size = put_steps(rule, feed, &mut []);
     if out.len() < size {
         return None;
     }

@@ -1,9 +1,7 @@
 -- `put_steps` meets its contract: each step puts out what comes next of the text.
 use Rattle.std.proofs.Common.{arith, ◌≡◌, ◌+◌, ◌-◌, ◌≤◌, ℕ, List, length, take, drop, true, true≢false, refl, sym, ap, subst, ◌∙◌}
-use lib.Seq.{length-take-le, drop-drop}
-use lib.ListN.{length-drop}
+use Rattle.std.proofs.lemmas.List.{length-take-le, length-drop, drop-drop, take_rest}
 use Rattle.feed.proofs.Fields.{drop_first}
-use Rattle.feed.proofs.Readings.{rest_all}
 use Rattle.framing.specs.Step.{stepped}
 use Rattle.framing.proofs.Moves.{moves}
 use Rattle.framing.proofs.Text.{stands_begun, stands_ended, stands_on}
@@ -59,7 +57,7 @@ loop-used-preserved c =
     let i = l.invariant in
     let w = c.in-On in
     let feed = c.args.feed.now in
-    let same = w.ensures.out_after ∙ ap (λ (rest : List ℕ). stepped joinfeed l.run l.left rest true l.lines) (rest_all feed l.at) in
+    let same = w.ensures.out_after ∙ ap (λ (rest : List ℕ). stepped joinfeed l.run l.left rest true l.lines) (take_rest feed l.at) in
     let m = moves joinfeed l.run l.left (drop l.at feed) true l.lines _ same in
     let few = m.in_left in
     let some = m.on refl in
@@ -95,7 +93,7 @@ returns-in-Ended c =
     let l = c.loop-used in
     let feed = c.args.feed.now in
     let w = c.in-Ended in
-    let same = w.ensures.out_after ∙ ap (λ (rest : List ℕ). stepped joinfeed l.run l.left rest true l.lines) (rest_all feed l.at) in
+    let same = w.ensures.out_after ∙ ap (λ (rest : List ℕ). stepped joinfeed l.run l.left rest true l.lines) (take_rest feed l.at) in
     let both = stands_ended joinfeed l.left (drop l.at feed) l.invariant.stands l.lines _ same c.put_fitting-in-Ended.new.out c.put_fitting-in-Ended.ensures l.auto.out refl in
     record { value = both.0; out_after = both.1 }
 
