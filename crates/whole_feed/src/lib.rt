@@ -1,9 +1,12 @@
 // A feed that is at hand joined whole: what is printed of it, put into a buffer that the caller lends.
 #![tactic(auto)]
 
-ghost use Rattle.std.specs.Prelude.{◌≡◌, ◌+◌, ◌≤◌, length};
+ghost use Rattle.std.specs.Prelude.{◌≡◌, true, ◌+◌, ◌-◌, ◌≤◌, length};
 ghost use Rattle.lists.specs.Put.{put};
-ghost use Rattle.steps.specs.Printed.{printed, read_limit};
+ghost use Rattle.feed.specs.Kind.{shortest_record};
+ghost use Rattle.framing.specs.Step.{More, On, stepped, went_of, used_of, filled_of};
+ghost use Rattle.steps.specs.Printed.{joinfeed, printed, read_limit};
+ghost use Rattle.steps.specs.Step.{effect_with, Kept, room};
 ghost use Rattle.whole_feed.specs.Printing.{printing_of, printout, printing};
 
 use framing::Went;
@@ -19,6 +22,17 @@ fn put_fitting(out: &mut [u8], at: usize, text: &[u8])
     }
 }
 
+// One step on all that is left of a feed.
+fn step_on_rest(run: &mut Progress, left: usize, rest: &[u8], lines: &mut [u8]) -> Went
+    requires { (Kept run.old left) × (room ≤ length lines.old) }
+    ensures out_after { effect_with result run.new lines.new ≡ stepped joinfeed run.old left rest.now true lines.old }
+    ensures kept { Kept run.new (left - used_of result) }
+    ensures bounds { (used_of result ≤ left) × (used_of result ≤ length rest.now) × (filled_of result ≤ length lines.old) }
+    ensures goes { (went_of result ≡ On → shortest_record ≤ used_of result) × (went_of result ≡ More → ⊥) }
+{
+    run.step(left, rest, true, lines)
+}
+
 // The text of a feed, step by step, from the buffer's first byte on, if it has room for all; answers how many bytes the text has.
 fn put_steps(rule: Rule, feed: &[u8], out: &mut [u8]) -> usize
     ensures value { result ≡ length (printed rule read_limit feed.now) }
@@ -30,7 +44,7 @@ fn put_steps(rule: Rule, feed: &[u8], out: &mut [u8]) -> usize
     let mut lines = [0u8; ROOM];
     let mut size = 0;
     loop {
-        match run.step(left, &feed[at..], true, &mut lines) {
+        match step_on_rest(&mut run, left, &feed[at..], &mut lines) {
             Went::On { used, filled } => {
                 put_fitting(out, size, &lines[..filled]);
                 left -= used;
