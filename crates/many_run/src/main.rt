@@ -1,7 +1,7 @@
 // Joins many feeds, each by its rule, and prints what is printed of each. Each is joined whole, and again through windows that grow by a byte at a time; it says so where the two differ.
 #![tactic(auto)]
 
-ghost use Rattle.std.specs.Prelude.{◌≡◌, ◌≤◌, ◌<◌, length};
+ghost use Rattle.std.specs.Prelude.{◌≤◌, length};
 ghost use Rattle.std.specs.Io.{ReadsAtMost};
 
 use feed_stream::step_on;
