@@ -1,7 +1,7 @@
 // Joins many feeds, each by its rule, and prints what is printed of each. Each is joined whole, and again through windows that grow by a byte at a time; it says so where the two differ.
 #![tactic(auto)]
 
-ghost use Rattle.std.specs.Prelude.{◌≡◌, ◌≤◌, ◌<◌, length};
+ghost use Rattle.std.specs.Prelude.{◌≤◌, length};
 ghost use Rattle.std.specs.Io.{ReadsAtMost};
 
 use feed_stream::step_on;
@@ -21,12 +21,6 @@ const LONGEST: usize = 65536;
 
 // Room for what is printed of a feed, and for a step more.
 const TEXT: usize = 131072;
-
-fn no_text() -> [u8; TEXT]
-    ensures { length result ≡ 131072 }
-{
-    [0; TEXT]
-}
 
 // The number in 4 bytes of a head from a place on, the least byte first.
 fn number_in(head: [u8; 12], at: usize) -> u32
@@ -86,6 +80,7 @@ fn put_pieces(rule: Rule, feed: &[u8], by_limit: bool, out: &mut [u8]) -> usize
 }
 
 // Joins a feed whole. Answers how many bytes were put out: none where they do not fit, which is not what must be printed.
+#[tactic(auto, unfolding(whole_feed::specs::Printing::fitted))]
 fn put_whole(rule: Rule, feed: &[u8], out: &mut [u8]) -> usize
     ensures { result ≤ length out.old }
 {
@@ -130,8 +125,8 @@ fn read_full<R: Read>(input: &mut R, buf: &mut [u8]) -> io::Result<usize>
 fn main(rt: HostRuntime) -> io::Result<()> {
     let mut input = rt.stdin();
     let mut feed = [0u8; LONGEST];
-    let mut text = no_text();
-    let mut pieces = no_text();
+    let mut text = [0u8; TEXT];
+    let mut pieces = [0u8; TEXT];
     for n in 0..FEEDS {
         let mut head = [0u8; 12];
         if read_full(&mut input, &mut head)? < 12 {

@@ -1,3 +1,1 @@
-pub mod Fitted
-pub mod Lent
 pub mod Unique
