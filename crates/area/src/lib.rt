@@ -88,10 +88,10 @@ impl Area {
     {
         let mut kept = 0;
         for i in 0..self.count {
-            let x = self.places[i];
+            let wanted = gate.wants(self.places[i].entry);
             // Moved first and counted if wanted: what is not is written over by the next, or blanked at the end.
-            self.places[kept] = x;
-            if gate.wants(x.entry) {
+            self.places[kept] = self.places[i];
+            if wanted {
                 kept += 1;
             }
         }
@@ -121,10 +121,13 @@ impl Area {
         requires { self.now.count ≤ places }
         ensures { result ≡ length (partners rule e (held self.now)) }
     {
-        self.held()
-            .iter()
-            .filter(|x| rule.pairs(e, x.entry))
-            .count()
+        let mut found = 0;
+        for x in self.held() {
+            if rule.pairs(e, x.entry) {
+                found += 1;
+            }
+        }
+        found
     }
 
     // Where the last partner of an entry of the other journal stands, among those held below a place, if one of them is a partner.
