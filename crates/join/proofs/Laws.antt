@@ -1,12 +1,12 @@
 -- Laws of the join's definitions that its functions rest on.
 use Prim.Native.Nat.{ℕ, ◌≤◌, ◌<◌}
 use native.Mathlib.Omega.{arith}
-use mathlib.Core.Bool.{Bool, true, false, cond}
+use mathlib.Core.Bool.{true, false}
 use mathlib.Core.List.{List, [], ◌∷◌, ◌++◌}
 use mathlib.Core.Path.{◌≡◌, refl, sym, ap, ◌∙◌}
 use lib.ListN.{drop, get_or}
 use lib.Seq.{drop-cons}
-use borrow.Author.Tests.{le-ltb, lt-ltb}
+use borrow.Author.Tests.{le-ltb}
 use Rattle.std.specs.Prelude.{Result, Ok, Err}
 use Rattle.lists.specs.Judge.{chain}
 use Rattle.lists.specs.Check.{Check}
@@ -36,7 +36,7 @@ use Rattle.halves.specs.Calls.{entry_rows, after_entry, after_move, moved_half, 
 use Rattle.join.specs.declared.Taken.{Taken}
 use Rattle.join.specs.declared.Taken.TheVariants as taken
 use Rattle.join.specs.State.{State, Sound, sound, seen_from, join_of, view, state_of}
-use Rattle.join.specs.Calls.{Handed, Waiting, Finished, Outcome, outcome, called, judge_rows, waiting_in, ready_in, both_closed, after_take, side_of, entry_on, entry_call, mark_on, mark_call, close_on, close_call, take_on, took_of, with_queue, without}
+use Rattle.join.specs.Calls.{Handed, Waiting, Outcome, outcome, called, judge_rows, waiting_in, ready_in, side_of, entry_on, entry_call, mark_on, mark_call, close_on, close_call, take_on, took_of, with_queue, without}
 use Rattle.join.proofs.Facts.{sound_parts}
 
 -- ---- the state as a side sees it

@@ -1,14 +1,13 @@
 -- Laws of places that are changed where they stand, one store a turn.
-use Prim.Native.Nat.{ℕ, suc, ◌+◌, ◌-◌, ◌≤◌, ◌<◌}
+use Prim.Native.Nat.{ℕ, ◌+◌, ◌-◌, ◌≤◌, ◌<◌}
 use native.Mathlib.Omega.{arith}
 use mathlib.Core.Bool.{Bool, false}
-use mathlib.Core.List.{List, [], ◌∷◌, ◌++◌, append_assoc}
+use mathlib.Core.List.{List, ◌++◌}
 use mathlib.Core.Path.{◌≡◌, sym, ap, ◌∙◌}
 use lib.ListN.{length, replicate, take, drop, set, get_or, length-replicate, length-set, replicate-append-replicate}
-use lib.Seq.{slice, length-slice, drop-cons, get_or-drop, get_or-append-add, set_at, take_at, drop_at, take-set-le, drop-set-lt, drop-drop, drop-append-add}
+use lib.Seq.{slice, length-slice, take_at, drop_at, take-set-le, drop-set-lt, drop-drop, drop-append-add}
 use Rattle.std.proofs.lemmas.List.Filters.{FiltersInPlace, FiltersInPlace-more_no}
 use Rattle.lists.specs.Store.{pad_to}
-use Rattle.lists.proofs.Judge.{slice_more}
 
 -- what does not pass is moved too, in front of those that are still to be looked at, and not counted
 pub FiltersInPlace-more_left : {A : Type 0} {p : A → Bool} {xs ys : List A} {k i : ℕ} → {x : A} → FiltersInPlace p xs ys k i → i < length ys → p x ≡ false → x ≡ get_or ys i x → FiltersInPlace p xs (set ys k x) k (i + 1)
@@ -30,20 +29,6 @@ padded_part {A} k n gap z xs rest e h few =
     ap (λ (t : List A). xs ++ (replicate gap z ++ t)) e ∙ ap (λ (t : List A). xs ++ t) (replicate-append-replicate gap (k - n) z) ∙ ap (λ (m : ℕ). xs ++ replicate m z) f
 
 -- ---- a stretch is moved to the front
-
-module _ {A : Type 0} (l₀ : List A) (k i : ℕ) (d : A) (behind : k ≤ i) (inside : i < length l₀) (l : List A) (e : l ≡ slice k i l₀ ++ drop (i - k) l₀) where
-  moved_length : length (slice k i l₀) ≡ i - k
-  moved_length = length-slice k i l₀ (omega arith)
-
-  moved_same : get_or l i d ≡ get_or l₀ i d
-  moved_same =
-      let m : i ≡ length (slice k i l₀) + k = omega (arith, moved_length) in
-      let f : (i - k) + k ≡ i = omega arith in
-      ap (λ (t : List A). get_or t i d) e
-      ∙ ap (λ (j : ℕ). get_or (slice k i l₀ ++ drop (i - k) l₀) j d) m
-      ∙ get_or-append-add (slice k i l₀) (drop (i - k) l₀) k d
-      ∙ get_or-drop (i - k) l₀ k d
-      ∙ ap (λ (j : ℕ). get_or l₀ j d) f
 
 -- the stretch is in front, and zeros are written behind it
 pub moved_padded : {A : Type 0} (size n k : ℕ) (z : A) (l₀ l₁ l₂ : List A) → length l₀ ≡ size → n ≤ size → k ≤ n → drop n l₀ ≡ replicate (size - n) z

@@ -1,13 +1,11 @@
 -- Laws of `list_all` and `chain`: the facts in a test of a whole list, and what `is_sorted_by` answers.
-use Prim.Native.Nat.{ℕ, zero, suc, ◌+◌, ◌-◌, ◌≤◌, ◌<◌}
+use Prim.Native.Nat.{ℕ, zero, suc, ◌+◌, ◌-◌, ◌<◌}
 use native.Mathlib.Omega.{arith}
 use native.Mathlib.Nat.{not-suc-le-zero, le_of_suc-le-suc}
-use native.Mathlib.Numerals.{add-one}
 use mathlib.Core.Bool.{Bool, true, false, ◌&&◌, and-false}
-use mathlib.Core.List.{List, [], ◌∷◌, ◌++◌}
+use mathlib.Core.List.{List, [], ◌∷◌}
 use mathlib.Core.Path.{◌≡◌, refl, sym, ap, ◌∙◌}
-use lib.ListN.{length, replicate, take, get_or, length-take}
-use lib.Seq.{slice, take-suc, drop-append-le}
+use lib.ListN.{length, replicate, get_or}
 use Rattle.std.specs.List.{list_all, AllAdjacentBelow, IsAllAdjacentAnswer}
 use Rattle.std.specs.Fn.{Called, ComputesOnPairs}
 use Rattle.std.proofs.lemmas.List.Sorted.{answers_always}
@@ -18,12 +16,6 @@ use Rattle.lists.proofs.All.{All, Each, all_map}
 use Rattle.lists.proofs.Bools.{and_left, and_right}
 
 module _ {A : Type 0} where
-  -- a stretch of a list, with one more at its end
-  pub slice_more : (l : List A) (from i : ℕ) (d : A) → from ≤ i → i < length l → slice from (i + 1) l ≡ slice from i l ++ (get_or l i d ∷ [])
-  slice_more l from i d p q =
-      let h : from ≤ length (take i l) = simp length-take (omega arith) in
-      rw (add-one, take-suc l i d q) (drop-append-le from (take i l) (get_or l i d ∷ []) h)
-
   fails : (p : A → Bool) (xs : List A) (j : ℕ) (d : A) → j < length xs → p (get_or xs j d) ≡ false → list_all p xs ≡ false
   fails p [] j d h e = absurd (not-suc-le-zero h)
   fails p (x ∷ xs) zero d h e = rw e

@@ -1,4 +1,4 @@
--- The numbers of a pair in their order. A record of kind 257 has them as its fields, a place of the queue holds them, and a printed line shows them.
+-- The numbers of a pair in their order. A record of kind 257 has them as its fields, and a printed line shows them.
 use Rattle.std.specs.Prelude.{ℕ, List, [], ◌∷◌, get_or}
 use Rattle.pairing.specs.declared.Pair.{Pair}
 
