@@ -4,16 +4,16 @@ use native.Mathlib.Nat.{sub-zero}
 use native.Mathlib.Omega.{arith}
 use mathlib.Core.Bool.{Bool, true, false, cond}
 use mathlib.Core.List.{List}
-use mathlib.Core.Path.{◌≡◌, refl, sym, ap, subst, ◌∙◌}
+use mathlib.Core.Path.{◌≡◌, refl, sym, subst}
 use lib.ListN.{length, length-take}
 use Rattle.lists.specs.Put.{put}
 use Rattle.feed.specs.Reading.{Reading, Found, Refused, End, reading}
 use Rattle.feed.specs.declared.Record.{Record}
 use Rattle.feed.specs.Kind.{shortest_record}
 use Rattle.feed.proofs.Readings.{found_ends}
-use Rattle.framing.specs.Step.{On, Ended, Effect, effect_of, waits, done, stepped}
+use Rattle.framing.specs.Step.{Ended, Effect, effect_of, waits, done, stepped}
 use Rattle.framing.specs.Shown.{shown, tells}
-use Rattle.framing.specs.Program.{Deed, Ends, Goes, Program, next_of, deed}
+use Rattle.framing.specs.Program.{Deed, Ends, Goes, Program}
 
 -- ---- what a deed leaves, where its lines are put out
 

@@ -1,13 +1,12 @@
 -- What a loop of steps over a flow keeps, with a window and a buffer for what is put out, of one size; and why it ends: each step uses some of the input, or a read shows more of it or its end.
-use Prim.Native.Nat.{ℕ, suc, ◌+◌, ◌-◌, ◌*◌, ◌≤◌, ◌<◌}
+use Prim.Native.Nat.{ℕ, suc, ◌+◌, ◌-◌, ◌*◌, ◌≤◌}
 use native.Mathlib.Omega.{arith}
-use mathlib.Core.Bool.{Bool, true, false, false≢true, true≢false}
+use mathlib.Core.Bool.{Bool, true, false}
 use mathlib.Core.List.{List}
-use mathlib.Core.Logic.{◌⊎◌, inl, inr}
 use mathlib.Core.Path.{◌≡◌, sym, subst}
 use lib.ListN.{length}
 use Rattle.pipe.specs.declared.Flow.{Flow}
-use Rattle.pipe.specs.Flow.{Flowing, Refilled, begun, gone}
+use Rattle.pipe.specs.Flow.{Flowing, Refilled, gone}
 
 -- how many bytes the window has, and the buffer
 abbrev pub size : ℕ

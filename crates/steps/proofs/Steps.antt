@@ -1,5 +1,5 @@
 -- Laws of joinfeed's steps: what an accepted record leaves, and what a run keeps.
-use Prim.Native.Nat.{ℕ, suc, ◌+◌, ◌-◌, ◌≤◌}
+use Prim.Native.Nat.{ℕ, ◌-◌, ◌≤◌}
 use native.Mathlib.Omega.{arith}
 use mathlib.Core.Bool.{Bool}
 use mathlib.Core.List.{List}
@@ -7,14 +7,10 @@ use mathlib.Core.Path.{◌≡◌, refl, sym, ap, ◌∙◌}
 use Rattle.std.specs.Prelude.{Option, Some, None, Result, Ok, Err}
 use lib.ListN.{length}
 use Rattle.lists.specs.Put.{put}
-use Rattle.lists.proofs.Keep.{keep_length}
 use Rattle.pairing.specs.declared.Rule.{Rule}
 use Rattle.journal.specs.Answer.{Answer, Accepted, Refused}
-use Rattle.queue.specs.declared.Queue.{Queue}
-use Rattle.queue.specs.Queue as queue
-use Rattle.queue.proofs.Sound.{queue_waiting}
 use Rattle.join.specs.State.{State, Sound}
-use Rattle.join.specs.Calls.{Outcome, outcome, waiting_in, ready_in, ready_of, without}
+use Rattle.join.specs.Calls.{Outcome, outcome, ready_of}
 use Rattle.join.proofs.Kept.{sound_fresh, without_kept}
 use Rattle.join.proofs.Ready.{ready_few}
 use Rattle.feed.specs.declared.Found.{Found as FoundAt}
