@@ -89,7 +89,7 @@ impl Area {
         let mut kept = 0;
         for i in 0..self.count {
             let wanted = gate.wants(self.places[i].entry);
-            // Moved first and counted if wanted: what is not is written over by the next, or blanked at the end.
+            // By index, as a turn reads one place and writes another. Moved first and counted if wanted: what is not is written over by the next, or blanked at the end.
             self.places[kept] = self.places[i];
             if wanted {
                 kept += 1;
@@ -121,6 +121,7 @@ impl Area {
         requires { self.now.count ≤ places }
         ensures { result ≡ length (partners rule e (held self.now)) }
     {
+        // One pass with a count, five instructions an entry; the library's filter and count take six.
         let mut found = 0;
         for x in self.held() {
             if rule.pairs(e, x.entry) {

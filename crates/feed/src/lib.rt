@@ -57,7 +57,7 @@ pub const PAIR: Kind = Kind {
 // The longest record with its two length bytes.
 pub const LONGEST_RECORD: usize = 2 + NOTE.longest as usize;
 
-// A record of an input feed. A number before another is its stream.
+// A record of an input feed. A number before another is its stream, which may be any, as what is neither 0 nor 1 is refused with 1.
 #[derive(Clone, Copy, Debug, PartialEq, Eq)]
 pub enum Record {
     Entry(u16, Entry),

@@ -92,7 +92,7 @@ impl Join {
     }
 }
 
-// The calls after judging: for a program that starts from a fresh join and keeps it sound, and for the public calls below.
+// The calls after judging: for a program that starts from a fresh join and keeps it sound, and for the public calls below. Each has an arm for each side, as a half is called beside the other one.
 impl Join {
     pub fn entry_on(&mut self, side: Side, e: Entry) -> Result<(), Refusal>
         requires { Sound self.old }
