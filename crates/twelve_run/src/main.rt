@@ -189,7 +189,13 @@ fn accepted(join: &Join, stream: u16) -> u32 {
 }
 
 // The same entry so many times, and how many entries the journal has accepted then.
-fn enter_many(rt: &impl Print, join: &mut Join, stream: u16, e: Entry, times: u32) -> io::Result<()> {
+fn enter_many(
+    rt: &impl Print,
+    join: &mut Join,
+    stream: u16,
+    e: Entry,
+    times: u32,
+) -> io::Result<()> {
     print!(rt; " {times} times")?;
     print_entry(rt, stream, e)?;
     for _ in 0..times {
