@@ -136,7 +136,7 @@ pub fn shows(s: &[u8]) -> bool
         return false;
     }
     let size = get16(s, 0);
-    outside(size, 2, 66) || size as usize <= s.len() - 2
+    outside(size, 2, 66) || usize::from(size) <= s.len() - 2
 }
 
 // The row of a kind among some.
@@ -173,7 +173,7 @@ impl Feed {
         if outside(size, 2, 66) {
             return Err(Refusal::Length);
         }
-        if s.len() - 2 < size as usize {
+        if s.len() - 2 < usize::from(size) {
             return Err(Refusal::Cut);
         }
         let kind = get16(s, 2);
@@ -267,7 +267,7 @@ fn record_in(head: Head, s: &[u8]) -> Record
     } else if head.kind == CLOSE.number {
         close_in(s)
     } else {
-        Record::Note(head.size as usize - 2)
+        Record::Note(usize::from(head.size) - 2)
     }
 }
 
@@ -287,7 +287,7 @@ pub fn read(s: &[u8], at: usize) -> Result<Option<Found<Record>>, Misread>
     if !found.stream_known() {
         return Err(misread(Refusal::Stream));
     }
-    let next = at + 2 + head.size as usize;
+    let next = at + 2 + usize::from(head.size);
     Ok(Some(Found { found, next }))
 }
 
@@ -303,7 +303,7 @@ pub fn read_pair(s: &[u8], at: usize) -> Result<Option<Found<Pair>>, Misread>
     let Some(head) = Feed::Output.head(rest).map_err(misread)? else {
         return Ok(None);
     };
-    let next = at + 2 + head.size as usize;
+    let next = at + 2 + usize::from(head.size);
     Ok(Some(Found {
         found: pair_in(rest),
         next,

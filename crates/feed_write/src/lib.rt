@@ -29,7 +29,7 @@ fn put_head(buf: &mut [u8], size: u16, kind: u16) -> Result<usize, Refusal>
     ensures room { IfOk result (λ whole. (whole ≡ 2 + size) × (whole ≤ length buf.old) × (buf.new ≡ put 0 (bytes 2 size ++ bytes 2 kind) buf.old)) }
     ensures short { IfErr result (λ refusal. (refusal ≡ Refusal.Buffer) × (length buf.old < 2 + size) × (buf.new ≡ buf.old)) }
 {
-    let whole = 2 + size as usize;
+    let whole = 2 + usize::from(size);
     if buf.len() < whole {
         return Err(Refusal::Buffer);
     }

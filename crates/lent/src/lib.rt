@@ -1,9 +1,10 @@
 // Two small services over what a caller lends: a count of partners over a run of entries, and a journal's clock moved where it stands.
 #![tactic(auto)]
 
-ghost use Rattle.std.specs.Prelude.{◌≡◌};
+ghost use Rattle.std.specs.Prelude.{◌≡◌, length, filter};
 ghost use Rattle.journal.specs.Answer.{answer_of};
 ghost use Rattle.journal.specs.Journal.{marked};
+ghost use Rattle.pairing.specs.Pair.{pairs};
 ghost use Rattle.area.specs.Area.{held};
 ghost use Rattle.lent.specs.Counted.{answered, counted, counted_as, entries_of};
 
@@ -22,16 +23,17 @@ fn answer(given: Entry, found: usize) -> Result<usize, Refusal>
     Ok(found)
 }
 
+fn partners(run: &[Entry], rule: Rule, given: Entry) -> usize
+    ensures { result ≡ length (filter (λ e. pairs rule given e) run.now) }
+{
+    run.iter().filter(|e| rule.pairs(given, **e)).count()
+}
+
 // How many entries of the run pair with one given entry of the other journal?
 pub fn partner_count(run: &[Entry], rule: Rule, given: Entry) -> Result<usize, Refusal>
     ensures { counted_as result ≡ counted rule given run.now }
 {
-    let mut found = 0;
-    for e in run {
-        if rule.pairs(given, *e) {
-            found += 1;
-        }
-    }
+    let found = partners(run, rule, given);
     answer(given, found)
 }
 

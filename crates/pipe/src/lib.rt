@@ -76,7 +76,7 @@ fn tell_place<E: Write>(errors: &mut E, records: u32, byte: usize, last: &[u8]) 
     if let [] | [b'd', ..] = last {
         return Ok(());
     }
-    write!(errors, "record {} byte {byte}: ", records as u64 + 1)?;
+    write!(errors, "record {} byte {byte}: ", u64::from(records) + 1)?;
     errors.write_all(last)
 }
 

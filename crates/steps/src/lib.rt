@@ -118,12 +118,8 @@ impl Progress {
         ensures value { result ≡ length (refused_line (number_of refusal) self.now) }
         ensures out_after { out.new ≡ put 0 (refused_line (number_of refusal) self.now) out.old }
     {
-        let records = self.records;
-        put_last(
-            out,
-            b"refused ",
-            &[u64::from(refusal.number()), u64::from(records)],
-        )
+        let counts = [u64::from(refusal.number()), u64::from(self.records)];
+        put_last(out, b"refused ", &counts)
     }
 
     // The last line of a feed that ends.

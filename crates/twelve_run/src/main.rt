@@ -14,8 +14,8 @@ const B: u16 = 1;
 // A line of the table. An entry has its stream, start, end and key.
 #[derive(Clone, Copy)]
 enum Line {
-    // An example begins: its number, and the width of its rule, which is near keys; 0 is equal keys.
-    Example(u32, u32),
+    // An example begins: its number, and its rule.
+    Example(u32, Rule),
     Entry(u16, u32, u32, u32),
     // The same entry so many times.
     Entries(u16, u32, u32, u32, u32),
@@ -34,20 +34,20 @@ enum Line {
 const LINES: usize = 88;
 
 const TABLE: [Line; LINES] = [
-    Line::Example(1, 0),
+    Line::Example(1, Rule::Equal),
     Line::Entry(A, 10, 20, 1),
     Line::Entry(B, 20, 30, 1),
     Line::Waiting,
-    Line::Example(2, 0),
+    Line::Example(2, Rule::Equal),
     Line::Entry(A, 10, 21, 1),
     Line::Entry(B, 20, 30, 1),
     Line::Waiting,
     Line::Pair(0),
-    Line::Example(3, 0),
+    Line::Example(3, Rule::Equal),
     Line::Entry(A, 5, 6, 1),
     Line::Mark(B, 6),
     Line::Area,
-    Line::Example(4, 0),
+    Line::Example(4, Rule::Equal),
     Line::Entry(B, 2, 20, 1),
     Line::Mark(B, 10),
     Line::Entry(A, 3, 5, 1),
@@ -57,67 +57,67 @@ const TABLE: [Line; LINES] = [
     Line::Area,
     Line::Mark(A, 4),
     Line::Take,
-    Line::Example(5, 0),
+    Line::Example(5, Rule::Equal),
     Line::Entry(A, 1, 4, 1),
     Line::Entry(A, 1, 4, 1),
     Line::Entry(B, 2, 3, 1),
     Line::Waiting,
     Line::Pair(0),
     Line::Pair(1),
-    Line::Example(6, 0),
+    Line::Example(6, Rule::Equal),
     Line::Entry(A, 7, 7, 1),
-    Line::Example(7, 0),
+    Line::Example(7, Rule::Equal),
     Line::Entry(A, 4294967294, 4294967295, 1),
-    Line::Example(8, 0),
+    Line::Example(8, Rule::Equal),
     Line::Mark(A, 10),
     Line::Entry(A, 9, 12, 1),
     Line::Entry(A, 10, 12, 1),
-    Line::Example(9, 0),
+    Line::Example(9, Rule::Equal),
     Line::Entries(A, 0, 9, 1, 64),
     Line::Entry(A, 0, 9, 1),
     Line::Mark(B, 9),
     Line::Entry(A, 0, 10, 1),
-    Line::Example(10, 0),
+    Line::Example(10, Rule::Equal),
     Line::Entries(A, 0, 100, 1, 64),
     Line::Entries(B, 0, 100, 1, 4),
     Line::Waiting,
     Line::Take,
     Line::Entry(B, 0, 100, 1),
-    Line::Example(11, 2),
+    Line::Example(11, Rule::Near(2)),
     Line::Entry(A, 10, 20, 5),
     Line::Entry(B, 10, 20, 7),
     Line::Waiting,
-    Line::Example(11, 2),
+    Line::Example(11, Rule::Near(2)),
     Line::Entry(A, 10, 20, 5),
     Line::Entry(B, 10, 20, 8),
     Line::Waiting,
-    Line::Example(11, 2),
+    Line::Example(11, Rule::Near(2)),
     Line::Entry(A, 10, 20, 35999),
     Line::Entry(B, 10, 20, 1),
     Line::Waiting,
-    Line::Example(11, 2),
+    Line::Example(11, Rule::Near(2)),
     Line::Entry(A, 10, 20, 35999),
     Line::Entry(B, 10, 20, 2),
     Line::Waiting,
-    Line::Example(11, 2),
+    Line::Example(11, Rule::Near(2)),
     Line::Entry(A, 10, 20, 36000),
-    Line::Example(11, 18000),
+    Line::Example(11, Rule::Near(18000)),
     Line::Entry(A, 10, 20, 0),
     Line::Entry(B, 10, 20, 18000),
     Line::Waiting,
-    Line::Example(11, 18000),
+    Line::Example(11, Rule::Near(18000)),
     Line::Entry(A, 10, 20, 18000),
     Line::Entry(B, 10, 20, 0),
     Line::Waiting,
-    Line::Example(11, 17999),
+    Line::Example(11, Rule::Near(17999)),
     Line::Entry(A, 10, 20, 0),
     Line::Entry(B, 10, 20, 18000),
     Line::Waiting,
-    Line::Example(11, 17999),
+    Line::Example(11, Rule::Near(17999)),
     Line::Entry(A, 10, 20, 18000),
     Line::Entry(B, 10, 20, 0),
     Line::Waiting,
-    Line::Example(12, 0),
+    Line::Example(12, Rule::Equal),
     Line::Take,
     Line::Close(A),
     Line::Close(B),
@@ -130,14 +130,6 @@ fn entry(start: u32, end: u32, key: u32) -> Entry {
         span,
         key,
         value: 0,
-    }
-}
-
-fn rule_of(width: u32) -> Rule {
-    if width == 0 {
-        Rule::Equal
-    } else {
-        Rule::Near(width)
     }
 }
 
@@ -172,9 +164,9 @@ fn print_taken(rt: &impl Print, answer: Result<Taken, Refusal>) -> io::Result<()
     }
 }
 
-fn print_example(rt: &impl Print, number: u32, width: u32) -> io::Result<()> {
+fn print_example(rt: &impl Print, number: u32, rule: Rule) -> io::Result<()> {
     print!(rt; "{number}.")?;
-    if 0 < width {
+    if let Rule::Near(width) = rule {
         print!(rt; " Near, width {width}.")?;
     }
     Ok(())
@@ -209,9 +201,9 @@ fn enter_many(
 // One line of an example, on the join as the line before left it.
 fn run_line(rt: &impl Print, join: &mut Join, line: Line) -> io::Result<()> {
     match line {
-        Line::Example(number, width) => {
-            *join = Join::fresh(rule_of(width));
-            print_example(rt, number, width)
+        Line::Example(number, rule) => {
+            *join = Join::fresh(rule);
+            print_example(rt, number, rule)
         }
         Line::Entry(stream, start, end, key) => {
             let e = entry(start, end, key);

@@ -10,4 +10,4 @@ returns-clause-room c =
     let a = c.args in
     let size = rw c.to_le_bytes.ensures at c.put_text.ensures in
     let kind = rw c.to_le_bytes-2.ensures at c.put_text-2.ensures in
-    (refl, omega arith, put_then 0 (bytes 2 a.size) (bytes 2 a.kind) a.buf.now size kind (omega arith))
+    (rw c.from-whole.ensures refl, omega arith, put_then 0 (bytes 2 a.size) (bytes 2 a.kind) a.buf.now size kind (omega arith))
