@@ -10,8 +10,8 @@ use borrow.Author.Tests.{ltb-true, leb-true, lt-ltb, le-leb}
 use Rattle.interval.specs.Interval.{proper_of}
 use Rattle.lists.proofs.All.{All, Each, all_map, all_map₂, all_append, each_map, each_append}
 use Rattle.lists.proofs.Bools.{and_left, and_right}
-use Rattle.lists.proofs.Judge.{all_of_all, all_all_of, chain_each, each_chain}
-use Rattle.lists.proofs.Keep.{keep_passes, keep_length, all_keep, each_keep}
+use Rattle.lists.proofs.Judge.{list_all_all, all_list_all, chain_each, each_chain}
+use Rattle.lists.proofs.Filter.{filter_passes, filter_length, all_filtered, each_filtered}
 use Rattle.lists.proofs.Store.{pad_to_take, stored_length, stores_stored, spare_stored}
 use Rattle.pairing.specs.declared.Entry.{Entry}
 use Rattle.pairing.specs.declared.Numbered.{Numbered}
@@ -97,7 +97,7 @@ module _ (rule : Rule) (own : Journal) (other : Gate) where
       let all = area_passes rule own other area e in
       record {
         few = omega (arith, held_length area h, leb-true area.count most all.few_pass);
-        sounds = all_map (λ (x : Numbered). sound_entry rule own other x ≡ true) (SoundEntry rule own other) entry_facts xs (all_of_all (sound_entry rule own other) xs all.sounds_pass);
+        sounds = all_map (λ (x : Numbered). sound_entry rule own other x ≡ true) (SoundEntry rule own other) entry_facts xs (list_all_all (sound_entry rule own other) xs all.sounds_pass);
         laters = each_map (λ (x y : Numbered). follows x y ≡ true) Later follows_later xs (chain_each follows follows_trans xs all.order_pass);
       }
 
@@ -108,7 +108,7 @@ module _ (rule : Rule) (own : Journal) (other : Gate) where
       rw (
         held_stored xs,
         le-leb (length xs) most h.few,
-        all_all_of (sound_entry rule own other) xs (all_map (SoundEntry rule own other) (λ (x : Numbered). sound_entry rule own other x ≡ true) entry_judged xs h.sounds),
+        all_list_all (sound_entry rule own other) xs (all_map (SoundEntry rule own other) (λ (x : Numbered). sound_entry rule own other x ≡ true) entry_judged xs h.sounds),
         each_chain follows xs (each_map Later (λ (x y : Numbered). follows x y ≡ true) later_follows xs h.laters),
         spare_stored no_entry places xs (length xs) refl spare_entry none_spare,
       )
@@ -138,10 +138,10 @@ module _ (rule : Rule) (own : Journal) (other : Gate) (xs : List Numbered) (h : 
   held_cleared gate =
       let wants : Numbered → Bool = λ x. wanted gate x.entry in
       record {
-        few = omega (arith, keep_length wants xs, h.few);
+        few = omega (arith, filter_length wants xs, h.few);
         sounds = all_map₂ (SoundEntry rule own other) (λ (x : Numbered). wants x ≡ true) (SoundEntry rule own gate) (λ x s e. record { proper = s.proper; needed = e; numbered = s.numbered; started = s.started; allowed = s.allowed }) (wanted_by gate xs)
-            (all_keep (SoundEntry rule own other) wants xs h.sounds) (keep_passes wants xs);
-        laters = each_keep Later wants xs h.laters;
+            (all_filtered (SoundEntry rule own other) wants xs h.sounds) (filter_passes wants xs);
+        laters = each_filtered Later wants xs h.laters;
       }
 
   -- an entry comes, and is held if wanted

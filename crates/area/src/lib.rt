@@ -5,7 +5,7 @@ ghost use Rattle.std.specs.Prelude.{◌≡◌, true, [], ◌∷◌, ◌++◌, �
 ghost use Rattle.std.specs.List.{list_all};
 ghost use Rattle.std.proofs.lemmas.List.Filters.{FiltersInPlace};
 ghost use Rattle.lists.specs.Judge.{chain};
-ghost use Rattle.lists.specs.Keep.{last_place};
+ghost use Rattle.lists.specs.Tally.{last_place};
 ghost use Rattle.pairing.specs.Pair.{pairs};
 ghost use Rattle.journal.specs.Journal.{wanted};
 ghost use Rattle.area.specs.Area.{places, held, no_entry, area_of, Holds, partners, wanted_by, sound_entry, follows, spare_entry, sound_area};

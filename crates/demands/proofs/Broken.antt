@@ -11,7 +11,7 @@ use Rattle.interval.specs.Interval.{proper_of, holds_at, meeting_of}
 use Rattle.std.specs.Prelude.{filter}
 use Rattle.lists.specs.Sort.{insert_all_by, ascending, neither}
 use Rattle.lists.specs.Store.{pad_to}
-use Rattle.lists.proofs.Keep.{keep_perm}
+use Rattle.lists.proofs.Filter.{filter_perm}
 use Rattle.pairing.specs.declared.Entry.{Entry}
 use Rattle.pairing.specs.declared.Numbered.{Numbered}
 use Rattle.pairing.specs.declared.Pair.{Pair}
@@ -69,7 +69,7 @@ of i j p = eqb p.a.ordinal i && eqb p.b.ordinal j
 
 lacks : (w : World) (t i j : ℕ) → filter (of i j) (filter (λ (p : Pair). holds_at t p.meeting) (pairs_of w)) ≡ [] → EachInstant Equal w → 0 ≡ length (filter (of i j) (couples_at t Equal w.of_a w.of_b))
 lacks w t i j e h =
-    ap length (Perm.nil-eq (rw e at (keep_perm (of i j) (filter (λ (p : Pair). holds_at t p.meeting) (pairs_of w)) (couples_at t Equal w.of_a w.of_b) (h t))))
+    ap length (Perm.nil-eq (rw e at (filter_perm (of i j) (filter (λ (p : Pair). holds_at t p.meeting) (pairs_of w)) (couples_at t Equal w.of_a w.of_b) (h t))))
 
 never : ◌≡◌ {A = ℕ} 0 1 → ⊥
 never e = omega arith

@@ -9,8 +9,9 @@ use borrow.Author.Tests.{le-leb}
 use Rattle.std.specs.Prelude.{filter}
 use Rattle.lists.proofs.All.{All, all_map}
 use Rattle.lists.proofs.Bools.{and_left, and_right}
-use Rattle.lists.proofs.Judge.{all_all_of}
-use Rattle.lists.proofs.Keep.{keep_append, keep_all}
+use Rattle.lists.proofs.Judge.{all_list_all}
+use Rattle.std.proofs.lemmas.List.Elements.{filter-append}
+use Rattle.lists.proofs.Filter.{filter_all}
 use Rattle.pairing.specs.declared.Entry.{Entry}
 use Rattle.pairing.specs.declared.Pair.{Pair}
 use Rattle.pairing.specs.declared.Rule.{Rule}
@@ -155,8 +156,8 @@ module _ (rule : Rule) (w : World) (g : GoodWorld rule w) where
     unfolding view
     below_clocks_lem =
         let now = ready_in w.state in
-        sym (ap (λ (ps : List Pair). ps ++ filter now (waiting_in w.state)) (keep_all now w.out due))
-        ∙ sym (keep_append now w.out (waiting_in w.state))
+        sym (ap (λ (ps : List Pair). ps ++ filter now (waiting_in w.state)) (filter_all now w.out due))
+        ∙ sym (filter-append now w.out (waiting_in w.state))
         ∙ sym f.still
         ∙ ap (filter now) k.listed
 
@@ -198,7 +199,7 @@ mark_promises_lem w more stream time h =
       since,
       (
         longer,
-        all_all_of (λ (e : Entry). leb time e.span.start) since
+        all_list_all (λ (e : Entry). leb time e.span.start) since
             (all_map (λ (e : Entry). time ≤ e.span.start) (λ (e : Entry). leb time e.span.start ≡ true) (λ e k. le-leb time e.span.start k) since ahead),
       ),
     )

@@ -8,8 +8,9 @@ use Rattle.std.specs.Prelude.{filter}
 use Rattle.lists.specs.Sort.{insert_all_by}
 use Rattle.lists.proofs.All.{All, all_map, all_append}
 use Rattle.lists.proofs.Bools.{and_left, and_right}
-use Rattle.lists.proofs.Keep.{keep_append, keep_keep, keep_same_test}
-use Rattle.lists.proofs.Sort.{keep_insert_all_by}
+use Rattle.std.proofs.lemmas.List.Elements.{filter-append}
+use Rattle.lists.proofs.Filter.{filter_again, filter_same_test}
+use Rattle.lists.proofs.Sort.{filter_insert_all_by}
 use Rattle.pairing.specs.declared.Entry.{Entry}
 use Rattle.pairing.specs.declared.Pair.{Pair}
 use Rattle.pairing.specs.declared.Side.{Side}
@@ -106,7 +107,7 @@ after_trans m n o p q = record {
 }
   where
     both : (l : List Pair) → filter (ready_then m) (filter (ready_then n) l) ≡ filter (ready_then m) l
-    both l = keep_keep (ready_then m) (ready_then n) (ready_later m.seen.own.gate m.seen.other.gate n.seen.own.gate n.seen.other.gate p.clock p.clock_other) l
+    both l = filter_again (ready_then m) (ready_then n) (ready_later m.seen.own.gate m.seen.other.gate n.seen.own.gate n.seen.other.gate p.clock p.clock_other) l
 
 -- ---- a gate moves, an entry comes
 
@@ -133,9 +134,9 @@ after_enter side m e l =
       clock = l;
       clock_other = onward_same m.seen.other.gate;
       longer = ([], append-nil m.out);
-      still = keep_append (ready_then m) m.out (insert_all_by comes_before new m.seen.waiting)
-          ∙ ap (λ (r : List Pair). filter (ready_then m) m.out ++ r) (keep_insert_all_by comes_before (ready_then m) new m.seen.waiting hidden)
-          ∙ sym (keep_append (ready_then m) m.out m.seen.waiting);
+      still = filter-append (ready_then m) m.out (insert_all_by comes_before new m.seen.waiting)
+          ∙ ap (λ (r : List Pair). filter (ready_then m) m.out ++ r) (filter_insert_all_by comes_before (ready_then m) new m.seen.waiting hidden)
+          ∙ sym (filter-append (ready_then m) m.out m.seen.waiting);
       entered = (e ∷ [], (refl, (l, tt)));
       entered_other = entered_none m.seen.other.gate m.other;
     }
@@ -164,7 +165,7 @@ turn_back m n p = record {
   clock = p.clock_other;
   clock_other = p.clock;
   longer = p.longer;
-  still = sym (keep_same_test (ready_then (turn m)) (ready_then m) (ready_turned m) (n.out ++ n.seen.waiting)) ∙ p.still ∙ keep_same_test (ready_then (turn m)) (ready_then m) (ready_turned m) (m.out ++ m.seen.waiting);
+  still = sym (filter_same_test (ready_then (turn m)) (ready_then m) (ready_turned m) (n.out ++ n.seen.waiting)) ∙ p.still ∙ filter_same_test (ready_then (turn m)) (ready_then m) (ready_turned m) (m.out ++ m.seen.waiting);
   entered = p.entered_other;
   entered_other = p.entered;
 }

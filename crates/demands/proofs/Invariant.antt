@@ -11,7 +11,8 @@ use Rattle.std.specs.Prelude.{filter}
 use Rattle.lists.specs.Sort.{insert_all_by}
 use Rattle.lists.proofs.All.{All, all_any, all_map, all_append, all_mapped}
 use Rattle.lists.proofs.Bools.{and_left, and_right}
-use Rattle.lists.proofs.Keep.{keep_append, keep_keep}
+use Rattle.std.proofs.lemmas.List.Elements.{filter-append}
+use Rattle.lists.proofs.Filter.{filter_again}
 use Rattle.lists.proofs.Order.{Compared, less, equal, more, compared}
 use Rattle.lists.proofs.Sort.{insert_all_by_behind}
 use Rattle.pairing.specs.declared.Entry.{Entry}
@@ -70,7 +71,7 @@ pub record Good (rule : Rule) (side : Side) (v : View) (own other : List Entry) 
 
 still_wanted : (g h : Gate) → Onward g h → (xs held : List Numbered) → held ≡ wanted_by g xs → wanted_by h held ≡ wanted_by h xs
 still_wanted g h l xs held e =
-    ap (wanted_by h) e ∙ keep_keep (λ (x : Numbered). wanted h x.entry) (λ (x : Numbered). wanted g x.entry) (λ x k. wanted_onward g h l x.entry k) xs
+    ap (wanted_by h) e ∙ filter_again (λ (x : Numbered). wanted h x.entry) (λ (x : Numbered). wanted g x.entry) (λ x k. wanted_onward g h l x.entry k) xs
 
 still_due : (g h other : Gate) → Onward g h → (ps : List Pair) → All (Due g other) ps → All (Due h other) ps
 still_due g h other l = all_map (Due g other) (Due h other) (λ p k. (below_onward g h l p.meeting.start k.0, k.1))
@@ -105,7 +106,7 @@ new_starts rule side x others =
 new_wanted : (rule : Rule) (side : Side) (x : Numbered) (gate : Gate) → Onward gate (Open x.entry.span.start) → (others : List Numbered) → new_pairs rule side x (wanted_by gate others) ≡ new_pairs rule side x others
 new_wanted rule side x gate l others =
     new_pairs_map rule side x (wanted_by gate others)
-    ∙ ap (map (pair_from side x)) (keep_keep (pairing rule x) (λ (y : Numbered). wanted gate y.entry) wants others)
+    ∙ ap (map (pair_from side x)) (filter_again (pairing rule x) (λ (y : Numbered). wanted gate y.entry) wants others)
     ∙ sym (new_pairs_map rule side x others)
   where
     wants : (y : Numbered) → pairing rule x y ≡ true → wanted gate y.entry ≡ true
@@ -161,7 +162,7 @@ enters rule side v own other out e l g =
       holds = ap (λ (xs : List Numbered). xs ++ wanted_by v.other.gate (arrival v e ∷ [])) g.holds
           ∙ ap (λ (y : Numbered). wanted_by v.other.gate (numbered_from 0 own) ++ wanted_by v.other.gate (y ∷ [])) numbered
           ∙ sym (ap (wanted_by v.other.gate) (numbered_snoc 0 own e ∙ ap (λ (n : ℕ). numbered_from 0 own ++ (record { entry = e; ordinal = n } ∷ [])) (zero-add (length own)))
-          ∙ keep_append (λ (y : Numbered). wanted v.other.gate y.entry) (numbered_from 0 own) (x ∷ []));
+          ∙ filter-append (λ (y : Numbered). wanted v.other.gate y.entry) (numbered_from 0 own) (x ∷ []));
       holds_other = still_wanted v.own.gate (Open e.span.start) l (numbered_from 0 other) v.others g.holds_other;
       listed = sym (insert_all_by_behind comes_before (formed side v e) out v.waiting past)
           ∙ ap (insert_all_by comes_before (formed side v e)) g.listed

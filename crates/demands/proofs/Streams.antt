@@ -8,10 +8,10 @@ use lib.Dec.{ltb, eqb}
 use borrow.Author.Tests.{lt-ltb, ltb-false, eqb-true, eq-eqb}
 use Rattle.interval.specs.declared.Interval.{Interval}
 use Rattle.interval.specs.Interval.{holds_at, meeting_of}
-use Rattle.lists.specs.Keep.{tally}
+use Rattle.lists.specs.Tally.{tally}
 use Rattle.lists.proofs.Bools.{and_left, and_right}
 use Rattle.lists.proofs.Grid.{tally_grid}
-use Rattle.lists.proofs.Keep.{tally_more, tally_map}
+use Rattle.lists.proofs.Filter.{tally_more, tally_map}
 use Rattle.lists.proofs.Sort.{tally_sort_by}
 use Rattle.pairing.specs.declared.Entry.{Entry}
 use Rattle.pairing.specs.declared.Numbered.{Numbered}

@@ -7,8 +7,8 @@ use mathlib.Core.Path.{◌≡◌, refl, sym, ap, ◌∙◌}
 use lib.Dec.{ltb}
 use borrow.Author.Tests.{lt-ltb}
 use Rattle.std.specs.Prelude.{filter}
-use Rattle.lists.specs.Keep.{tally}
-use Rattle.lists.proofs.Keep.{tally_through, tally_stopped}
+use Rattle.lists.specs.Tally.{tally}
+use Rattle.lists.proofs.Filter.{tally_through, tally_stopped}
 use Rattle.demands.specs.Stream.{once, sum_over}
 
 module _ {E : Type 0} (same : E → E → Bool) (same_refl : (x : E) → same x x ≡ true) (same_true : (x y : E) → same x y ≡ true → x ≡ y) where

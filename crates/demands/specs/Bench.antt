@@ -1,7 +1,7 @@
 -- The twelve bench examples of document 01, with what P2 adds to the eleventh, of the definitions themselves, as a single table under a single statement.
 use Rattle.std.specs.Prelude.{ℕ, zero, suc, ◌≡◌, replicate}
 use mathlib.Core.List.{List, [], ◌∷◌, ◌++◌, map, flat_map}
-use Rattle.lists.specs.Keep.{tally}
+use Rattle.lists.specs.Tally.{tally}
 use Rattle.pairing.specs.declared.Entry.{Entry}
 use Rattle.pairing.specs.declared.Pair.{Pair}
 use Rattle.pairing.specs.declared.Rule.{Rule}

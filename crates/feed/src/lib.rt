@@ -103,7 +103,7 @@ struct Head {
     size: u16,
 }
 
-// The number in two bytes from a place on, the least byte first.
+// The number in two bytes from a place on, the least byte first. `get32` is beside it, as `from_le_bytes` is of each type and of no trait.
 fn get16(s: &[u8], at: usize) -> u16
     requires { at + 2 ≤ length s.now }
     ensures { result ≡ value (take 2 (drop at s.now)) }

@@ -7,7 +7,7 @@ use mathlib.Core.Path.{◌≡◌, refl, sym, ap, ap₂, ◌∙◌}
 use lib.ListN.{length, take, drop, length-append, length-drop}
 use Rattle.lists.proofs.All.{all_any}
 use Rattle.lists.proofs.FlatMap.{flat_map_append}
-use Rattle.lists.proofs.Keep.{keep_all}
+use Rattle.lists.proofs.Filter.{filter_all}
 use Rattle.pairing.specs.declared.Entry.{Entry}
 use Rattle.pairing.specs.declared.Pair.{Pair}
 use Rattle.pairing.specs.declared.Rule.{Rule}
@@ -128,7 +128,7 @@ ready_closed Closed (Open clock) e p = absurd (false≢true e)
 ready_closed Closed Closed e p = refl
 
 none_waits : (s : State) → both_closed s ≡ true → ready_of s ≡ [] → waiting_in s ≡ []
-none_waits s closed none = sym (keep_all (ready_in s) (waiting_in s) (all_any (λ (p : Pair). ready_in s p ≡ true) (ready_closed s.a.journal.gate s.b.journal.gate closed) (waiting_in s))) ∙ none
+none_waits s closed none = sym (filter_all (ready_in s) (waiting_in s) (all_any (λ (p : Pair). ready_in s p ≡ true) (ready_closed s.a.journal.gate s.b.journal.gate closed) (waiting_in s))) ∙ none
 
 fresh_none : (rule : Rule) → ready_now (begin rule) ≡ []
 unfolding fresh_state state_of

@@ -46,6 +46,7 @@ pub fn join_input<R: Read, W: Write, E: Write>(
     let mut window = [0u8; SIZE];
     let mut out = [0u8; SIZE];
     let mut flow = Flow::begun(limit);
+    // Until a step ends or a stream fails; nothing is counted here.
     loop {
         match step_on(&mut run, &flow, &window, &mut out) {
             Went::More => flow = flow.refill(input, output, &mut window, &out)?,

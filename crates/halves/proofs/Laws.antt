@@ -8,7 +8,7 @@ use lib.ListN.{length, length-map}
 use Rattle.lists.specs.Judge.{chain}
 use Rattle.lists.proofs.All.{each_map}
 use Rattle.lists.proofs.Judge.{chain_each, each_chain}
-use Rattle.lists.proofs.Keep.{keep_length}
+use Rattle.lists.proofs.Filter.{filter_length}
 use Rattle.pairing.specs.declared.Entry.{Entry}
 use Rattle.pairing.specs.declared.Numbered.{Numbered}
 use Rattle.pairing.specs.declared.Rule.{Rule}
@@ -35,7 +35,7 @@ formed_count rule side x others = ap length (new_pairs_map rule side x others) �
 
 -- and no more than the entries that are looked at
 partners_few : (rule : Rule) (e : Entry) (xs : List Numbered) → length (area.partners rule e xs) ≤ length xs
-partners_few rule e xs = keep_length (λ (x : Numbered). pairs rule e x.entry) xs
+partners_few rule e xs = filter_length (λ (x : Numbered). pairs rule e x.entry) xs
 
 -- they come in ascending order, as the held entries follow one another
 pub formed_ascending : (rule : Rule) (side : Side) (x : Numbered) (others : List Numbered) → chain area.follows others ≡ true → chain comes_before (new_pairs rule side x others) ≡ true

@@ -1,4 +1,4 @@
--- Laws of intervals. Nothing above this file looks into `holds_at`, `proper_of` or `meeting_of`.
+-- Laws of intervals. Above this file only computed examples look into `holds_at`, `proper_of` or `meeting_of`.
 use Prim.Native.Nat.{ℕ, ◌<◌, ◌≤◌, min, max}
 use native.Mathlib.Omega.{arith}
 use mathlib.Core.Bool.{true, false, ◌&&◌}

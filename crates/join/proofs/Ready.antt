@@ -9,9 +9,9 @@ use lib.Seq.{drop-drop}
 use Rattle.std.specs.Prelude.{filter}
 use Rattle.lists.specs.Check.{Check}
 use Rattle.lists.proofs.All.{All, all_any}
-use Rattle.lists.proofs.Keep.{keep_length}
+use Rattle.lists.proofs.Filter.{filter_length}
 use Rattle.lists.proofs.Order.{Ascending}
-use Rattle.lists.proofs.Sort.{keep_insert_all_by}
+use Rattle.lists.proofs.Sort.{filter_insert_all_by}
 use Rattle.pairing.specs.declared.Entry.{Entry}
 use Rattle.pairing.specs.declared.Numbered.{Numbered}
 use Rattle.pairing.specs.declared.Pair.{Pair}
@@ -30,7 +30,7 @@ use Rattle.journal.proofs.Rows.{unless_refused_lem}
 use Rattle.queue.specs.declared.Queue.{Queue}
 use Rattle.queue.specs.Queue as queue
 use Rattle.queue.proofs.Sound.{waiting_stored, queue_waiting}
-use Rattle.queue.proofs.Ready.{keep_ready_comm, ready_ahead, ready_head, ready_grows}
+use Rattle.queue.proofs.Ready.{filter_ready_comm, ready_ahead, ready_head, ready_grows}
 use Rattle.halves.specs.View.{View}
 use Rattle.halves.specs.Calls.{arrival, formed, entry_rows, after_entry, after_move, close_rows}
 use Rattle.halves.proofs.Facts.{entry_met}
@@ -46,7 +46,7 @@ use Rattle.join.proofs.Kept.{sound_view, without_kept}
 pub ready_few : (s : State) → Sound s → length (ready_of s) ≤ queue.places
 ready_few s h =
     let few : length (waiting_in s) ≤ queue.places = rw (view_waiting A s) at (sound_view A s h).waiting.few in
-    omega (arith, keep_length (ready_in s) (waiting_in s))
+    omega (arith, filter_length (ready_in s) (waiting_in s))
 
 ascending : (s : State) → Sound s → Ascending comes_before (waiting_in s)
 ascending s h = rw (view_waiting A s) at (sound_view A s h).waiting.ascends
@@ -60,7 +60,7 @@ ready_seen v = filter (queue.ready v.own.gate v.other.gate) v.waiting
 ready_seen_lem : (side : Side) (s : State) → ready_of s ≡ ready_seen (view side s)
 unfolding view
 ready_seen_lem A s = refl
-ready_seen_lem B s = keep_ready_comm s.a.journal.gate s.b.journal.gate (waiting_in s)
+ready_seen_lem B s = filter_ready_comm s.a.journal.gate s.b.journal.gate (waiting_in s)
 
 -- what is ready in s stays first among what is ready in t
 abbrev pub Grows : State → State → Type 0
@@ -100,7 +100,7 @@ module _ (s : State) (h : Sound s) (side : Side) where
       let due : Pair → Bool = queue.ready seen.own.gate seen.other.gate in
       let late : All (λ (p : Pair). due p ≡ false) (formed side seen e) = all_new_pairs (λ (p : Pair). due p ≡ false) (λ (y : Numbered). Unit {0}) seen.rule side (arrival seen e) seen.others
       (λ y u f. ready_ahead seen.own.gate seen.other.gate start on _ (pair_from_start (arrival seen e) y side)) (all_any (λ (y : Numbered). Unit {0}) (λ y. tt) seen.others) in
-      grows_seen (after_entry side seen e) on refl (keep_insert_all_by comes_before due (formed side seen e) seen.waiting late) (sound_entry_lem side seen (sound_view side s h) e met).waiting.ascends
+      grows_seen (after_entry side seen e) on refl (filter_insert_all_by comes_before due (formed side seen e) seen.waiting late) (sound_entry_lem side seen (sound_view side s h) e met).waiting.ascends
 
 module _ (s : State) (h : Sound s) where
   judged_grows : (stream : ℕ) (rows : List Check) (next : State) → (first_of rows ≡ Accepted → Grows s next) → Grows s (called s (judge_rows s stream ++ rows) next).state

@@ -6,8 +6,8 @@ use mathlib.Core.Path.{◌≡◌, ap, ◌∙◌}
 use Rattle.std.specs.Prelude.{filter}
 use Rattle.lists.proofs.All.{Each, each_map}
 use Rattle.lists.proofs.Bools.{and_left, and_right}
-use Rattle.lists.proofs.First.{Down, keep_split, keep_head}
-use Rattle.lists.proofs.Keep.{keep_same_test, keep_keep, each_keep}
+use Rattle.lists.proofs.First.{Down, filter_split, filter_head}
+use Rattle.lists.proofs.Filter.{filter_same_test, filter_again, each_filtered}
 use Rattle.lists.proofs.Order.{Ascending}
 use Rattle.journal.specs.declared.Gate.{Gate}
 use Rattle.journal.specs.declared.Gate.TheVariants.{Open}
@@ -20,8 +20,8 @@ module _ {A : Type 0} (at : A → ℕ) where
   due_comm : (a b : Gate) (x : A) → due at a b x ≡ due at b a x
   due_comm a b x = and_comm (below a (at x)) (below b (at x))
 
-  pub keep_due_comm : (a b : Gate) (xs : List A) → filter (due at a b) xs ≡ filter (due at b a) xs
-  keep_due_comm a b xs = keep_same_test (due at a b) (due at b a) (due_comm a b) xs
+  pub filter_due_comm : (a b : Gate) (xs : List A) → filter (due at a b) xs ≡ filter (due at b a) xs
+  filter_due_comm a b xs = filter_same_test (due at a b) (due at b a) (due_comm a b) xs
 
   -- what is due stays due
   due_onward : (a b next_a next_b : Gate) → Onward a next_a → Onward b next_b → (x : A) → due at a b x ≡ true → due at next_a next_b x ≡ true
@@ -44,11 +44,11 @@ module _ {A : Type 0} (at : A → ℕ) where
 
     -- what is due stands first
     pub due_split : (a b : Gate) (xs : List A) → Ascending before xs → xs ≡ filter (due at a b) xs ++ filter (λ (x : A). not (due at a b x)) xs
-    due_split a b xs h = keep_split (due at a b) xs (due_downs a b xs h)
+    due_split a b xs h = filter_split (due at a b) xs (due_downs a b xs h)
 
     -- where something is due, the first is
     pub due_head : (a b : Gate) (y : A) (ys : List A) → Ascending before (y ∷ ys) → (x : A) (xs : List A) → filter (due at a b) (y ∷ ys) ≡ x ∷ xs → due at a b y ≡ true
-    due_head a b y ys h x xs e = keep_head (due at a b) y ys (due_downs a b (y ∷ ys) h) x xs e
+    due_head a b y ys h x xs e = filter_head (due at a b) y ys (due_downs a b (y ∷ ys) h) x xs e
 
     -- what was due stays the first of what is due
     pub due_grows : (a b next_a next_b : Gate) → Onward a next_a → Onward b next_b → (xs next : List A) → filter (due at a b) next ≡ filter (due at a b) xs → Ascending before next
@@ -57,6 +57,6 @@ module _ {A : Type 0} (at : A → ℕ) where
         let l = filter (due at next_a next_b) next in
         let late : List A = filter (λ (x : A). not (due at a b x)) l in (
           late,
-          due_split a b l (each_keep (λ (x y : A). before x y ≡ true) (due at next_a next_b) next h)
-              ∙ ap (λ (m : List A). m ++ late) (keep_keep (due at a b) (due at next_a next_b) (due_onward a b next_a next_b on_a on_b) next ∙ same),
+          due_split a b l (each_filtered (λ (x y : A). before x y ≡ true) (due at next_a next_b) next h)
+              ∙ ap (λ (m : List A). m ++ late) (filter_again (due at a b) (due at next_a next_b) (due_onward a b next_a next_b on_a on_b) next ∙ same),
         )

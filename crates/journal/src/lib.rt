@@ -60,7 +60,7 @@ impl Gate {
         matches!(self, Gate::Closed)
     }
 
-    // Is the time below the clock, so that a start or a mark there breaks a promise?
+    // Is the time below the clock, so that a start or a mark there breaks a promise? Unlike `passed`, a closed journal has no clock to be below.
     pub fn behind(self, t: u32) -> bool
         ensures { result ≡ is_behind self t }
     {

@@ -9,7 +9,7 @@ use Rattle.interval.specs.Interval.{proper_of}
 use Rattle.std.specs.Prelude.{filter, Result, Ok, Err}
 use Rattle.lists.proofs.All.{all_any}
 use Rattle.lists.proofs.Bools.{bool_ext}
-use Rattle.lists.proofs.Keep.{keep_none, keep_keep, keep_map}
+use Rattle.lists.proofs.Filter.{filter_none, filter_again, filter_mapped}
 use Rattle.pairing.specs.declared.Entry.{Entry}
 use Rattle.pairing.specs.declared.Numbered.{Numbered}
 use Rattle.pairing.specs.declared.Rule.{Rule}
@@ -31,7 +31,7 @@ use Rattle.lent.specs.Counted.{answered, counted, counted_as, entries_of}
 
 -- what cannot be a partner may be left out of the run first
 counted_passing : (rule : Rule) (given : Entry) (run : List Entry) (test : Entry → Bool) → ((e : Entry) → pairs rule given e ≡ true → test e ≡ true) → counted rule given (filter test run) ≡ counted rule given run
-counted_passing rule given run test h = ap (λ (l : List Entry). answered given (length l)) (keep_keep (pairs rule given) test h run)
+counted_passing rule given run test h = ap (λ (l : List Entry). answered given (length l)) (filter_again (pairs rule given) test h run)
 
 -- an improper entry in the run pairs with nothing: the count is that of the proper ones
 pub counted_proper : (rule : Rule) (given : Entry) (run : List Entry) → counted rule given (filter (λ (e : Entry). proper_of e.span) run) ≡ counted rule given run
@@ -45,7 +45,7 @@ counted_allowed rule given run = counted_passing rule given run (λ e. allows ru
 pub counted_none : (rule : Rule) (given : Entry) (run : List Entry) → allows rule given.key ≡ false → counted rule given run ≡ answered given 0
 counted_none rule given run barred =
     let none : (e : Entry) → pairs rule given e ≡ false = λ e. bool_ext (pairs rule given e) false (λ h. sym barred ∙ pairs_allows rule given e h) (λ f. absurd (false≢true f)) in
-    ap (λ (l : List Entry). answered given (length l)) (keep_none (pairs rule given) run (all_any (λ (e : Entry). pairs rule given e ≡ false) none run))
+    ap (λ (l : List Entry). answered given (length l)) (filter_none (pairs rule given) run (all_any (λ (e : Entry). pairs rule given e ≡ false) none run))
 
 -- it is the same whichever journal the run is of
 pub counted_comm : (rule : Rule) (given : Entry) (run : List Entry) → counted rule given run ≡ answered given (length (filter (λ (e : Entry). pairs rule e given) run))
@@ -64,7 +64,7 @@ same_count (Err r) (Err s) e = let n : number_of r ≡ number_of s = cc in let s
 pub counted_held : (rule : Rule) (given : Entry) (xs : List Numbered) → counted rule given (entries_of xs) ≡ answered given (length (partners rule given xs))
 counted_held rule given xs =
     let entry_of : Numbered → Entry = λ x. x.entry in
-    ap (answered given) (ap length (keep_map (pairs rule given) entry_of xs) ∙ length-map (partners rule given xs) entry_of)
+    ap (answered given) (ap length (filter_mapped (pairs rule given) entry_of xs) ∙ length-map (partners rule given xs) entry_of)
 
 take_min : {A : Type 0} (n : ℕ) (l : List A) → take (min n (length l)) l ≡ take n l
 take_min zero l = ap (λ (m : ℕ). take m l) (zero-min (length l))

@@ -1,4 +1,4 @@
--- The contract of each public function allows one result, and that of a lent journal one record at exit.
+-- The contract of each public function allows one result, and that of a lent journal one journal at exit.
 -- Those of `partner_count` and `mark_lent` are read here first: in every model, what each ensures is the fact beside it.
 use mathlib.Core.Path.{◌≡◌, refl, sym, ◌∙◌}
 use seplogic.Ra.Ura.{Ura}

@@ -4,11 +4,11 @@ use native.Mathlib.Omega.{arith}
 use mathlib.Core.Bool.{Bool, true, false, cond, ◌&&◌}
 use mathlib.Core.List.{List, [], ◌∷◌, ◌++◌, append-nil, flat_map}
 use mathlib.Core.Path.{◌≡◌, refl, ap, ◌∙◌}
-use Rattle.lists.specs.Keep.{tally}
+use Rattle.lists.specs.Tally.{tally}
 use Rattle.lists.specs.Sort.{insert_all_by}
 use Rattle.lists.proofs.All.{All, all_any, all_map}
 use Rattle.lists.proofs.FlatMap.{flat_map_append, all_flat_map}
-use Rattle.lists.proofs.Keep.{tally_append}
+use Rattle.lists.proofs.Filter.{tally_append}
 use Rattle.lists.proofs.Order.{StrictOrder, Apart}
 use Rattle.lists.proofs.Sort.{insert_all_by_append, insert_all_by_comm}
 

@@ -21,17 +21,17 @@ module _ {A : Type 0} where
   fails p (x ∷ xs) zero d h e = rw e
   fails p (x ∷ xs) (suc j) d h e = rw (fails p xs j d (le_of_suc-le-suc h) e, and-false (p x))
 
-  pub all_of_all : (p : A → Bool) (xs : List A) → list_all p xs ≡ true → All (λ (x : A). p x ≡ true) xs
-  all_of_all p [] e = tt
-  all_of_all p (x ∷ xs) e = (and_left (p x) (list_all p xs) e, all_of_all p xs (and_right (p x) (list_all p xs) e))
+  pub list_all_all : (p : A → Bool) (xs : List A) → list_all p xs ≡ true → All (λ (x : A). p x ≡ true) xs
+  list_all_all p [] e = tt
+  list_all_all p (x ∷ xs) e = (and_left (p x) (list_all p xs) e, list_all_all p xs (and_right (p x) (list_all p xs) e))
 
-  pub all_all_of : (p : A → Bool) (xs : List A) → All (λ (x : A). p x ≡ true) xs → list_all p xs ≡ true
-  all_all_of p [] h = refl
-  all_all_of p (x ∷ xs) h = rw (h.0, all_all_of p xs h.1)
+  pub all_list_all : (p : A → Bool) (xs : List A) → All (λ (x : A). p x ≡ true) xs → list_all p xs ≡ true
+  all_list_all p [] h = refl
+  all_list_all p (x ∷ xs) h = rw (h.0, all_list_all p xs h.1)
 
-  pub all_of_replicate : (p : A → Bool) (n : ℕ) (z : A) → p z ≡ true → list_all p (replicate n z) ≡ true
-  all_of_replicate p zero z e = refl
-  all_of_replicate p (suc n) z e = rw (e, all_of_replicate p n z e)
+  pub list_all_replicate : (p : A → Bool) (n : ℕ) (z : A) → p z ≡ true → list_all p (replicate n z) ≡ true
+  list_all_replicate p zero z e = refl
+  list_all_replicate p (suc n) z e = rw (e, list_all_replicate p n z e)
 
   chain_from_fails : (r : A → A → Bool) (x : A) (xs : List A) (j : ℕ) (d : A) → j < length xs → r (get_or (x ∷ xs) j d) (get_or xs j d) ≡ false → chain_from r x xs ≡ false
   chain_from_fails r x [] j d h e = absurd (not-suc-le-zero h)

@@ -11,21 +11,21 @@ use lib.ListN.{length, take, get_or, length-append, length-take}
 use lib.Seq.{take-suc, take-take, get_or-take, length-take-le}
 use borrow.Author.Tests.{ltb-true, ltb-false, lt-ltb}
 use Rattle.std.specs.Prelude.{filter}
-use Rattle.lists.specs.Keep.{last_place}
-use Rattle.lists.proofs.Keep.{keep_append}
+use Rattle.lists.specs.Tally.{last_place}
+use Rattle.std.proofs.lemmas.List.Elements.{filter-append}
 
 module _ {A : Type 0} (p : A → Bool) where
   -- behind the others, one that passes is the last that does, and one that fails changes nothing
   at_end : (xs : List A) (y : A) → p y ≡ true → last_place p (xs ++ (y ∷ [])) ≡ length xs
   at_end [] y e = refl
   at_end (x ∷ xs) y e =
-      let kept : filter p (xs ++ (y ∷ [])) ≡ filter p xs ++ (y ∷ []) = rw (keep_append p xs (y ∷ []), e) in
+      let kept : filter p (xs ++ (y ∷ [])) ≡ filter p xs ++ (y ∷ []) = rw (filter-append p xs (y ∷ []), e) in
       let some : 0 < length (filter p (xs ++ (y ∷ []))) = omega (arith, ap length kept, length-append (filter p xs) (y ∷ [])) in
       rw (lt-ltb 0 (length (filter p (xs ++ (y ∷ [])))) some, at_end xs y e)
 
   not_at_end : (xs : List A) (y : A) → p y ≡ false → last_place p (xs ++ (y ∷ [])) ≡ last_place p xs
   not_at_end [] y e = refl
-  not_at_end (x ∷ xs) y e = rw (keep_append p xs (y ∷ []), e, append-nil (filter p xs), not_at_end xs y e)
+  not_at_end (x ∷ xs) y e = rw (filter-append p xs (y ∷ []), e, append-nil (filter p xs), not_at_end xs y e)
 
   pub last_here : (l : List A) (i : ℕ) (d : A) → i < length l → p (get_or l i d) ≡ true → last_place p (take (i + 1) l) ≡ i
   last_here l i d h e = rw (add-one, take-suc l i d h) (at_end (take i l) (get_or l i d) e ∙ length-take-le i l (omega arith))
@@ -61,8 +61,8 @@ module _ {A : Type 0} (p : A → Bool) where
           (omega (arith, i.0), behind (p x) (filter p (take (last_place p xs) xs)) (get_or xs (last_place p xs) d) i.1)
       go false e rest = (omega arith, alone (p x) (filter p xs) (omega (arith, ltb-false 0 (length (filter p xs)) e)) h)
 
-  pub keep_last : (l : List A) (i : ℕ) (d : A) (j : ℕ) → 0 < length (filter p (take i l)) → j ≡ last_place p (take i l) → (j < i) × (filter p (take i l) ≡ filter p (take j l) ++ (get_or l j d ∷ []))
-  keep_last l i d j some e =
+  pub filter_last : (l : List A) (i : ℕ) (d : A) (j : ℕ) → 0 < length (filter p (take i l)) → j ≡ last_place p (take i l) → (j < i) × (filter p (take i l) ≡ filter p (take j l) ++ (get_or l j d ∷ []))
+  filter_last l i d j some e =
       let s = split_last (take i l) d some in
       let below : j < i = omega (arith, s.0, e, length-take i l) in (
         below,

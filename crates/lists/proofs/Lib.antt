@@ -1,7 +1,7 @@
 pub mod Bools
 pub mod All
 pub mod FlatMap
-pub mod Keep
+pub mod Filter
 pub mod Last
 pub mod Order
 pub mod Sort

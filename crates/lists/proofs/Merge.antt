@@ -13,11 +13,11 @@ use Rattle.std.specs.List.Sorted.{IsPartitionedBy, IsPartitionPoint}
 use Rattle.std.proofs.lemmas.Bool.{not-true}
 use Rattle.std.proofs.lemmas.Slice.{between_is}
 use Rattle.std.specs.Prelude.{filter}
-use Rattle.lists.specs.Keep.{last_place}
+use Rattle.lists.specs.Tally.{last_place}
 use Rattle.lists.specs.Sort.{insert_by, insert_all_by}
 use Rattle.lists.proofs.All.{All, all_map, all_at, all_get_d, each_first, each_last}
-use Rattle.lists.proofs.Keep.{keep_fewer}
-use Rattle.lists.proofs.Last.{keep_last}
+use Rattle.lists.proofs.Filter.{filter_fewer}
+use Rattle.lists.proofs.Last.{filter_last}
 use Rattle.lists.proofs.Order.{StrictOrder, Apart, Ascending}
 use Rattle.lists.proofs.Sort.{insert_by_past}
 
@@ -182,7 +182,7 @@ module _ {A B : Type 0} (f : A → B) (m : A → Bool) (r : B → B → Bool) (s
   module _ (l : List B) (i w gap : ℕ) (s : At l i w gap) where
     -- no more are left than there were
     pub merge_few : gap ≤ length all
-    merge_few = omega (arith, s.left, length-map (filter m (take i src)) f, length-map (filter m src) f, keep_fewer m src i (length src) s.small, ap (λ (t : List A). length (filter m t)) (take_all (length src) src (omega arith)))
+    merge_few = omega (arith, s.left, length-map (filter m (take i src)) f, length-map (filter m src) f, filter_fewer m src i (length src) s.small, ap (λ (t : List A). length (filter m t)) (take_all (length src) src (omega arith)))
 
     module _ (some : 0 < gap) where
       pub one_passes : 0 < length (filter m (take i src))
@@ -191,10 +191,10 @@ module _ {A B : Type 0} (f : A → B) (m : A → Bool) (r : B → B → Bool) (s
       -- the last source that passes stands at j
       module _ (d : A) (j : ℕ) (last : j ≡ last_place m (take i src)) where
         pub last_below : j < i
-        last_below = (keep_last m src i d j one_passes last).0
+        last_below = (filter_last m src i d j one_passes last).0
 
         new_more : new i ≡ new j ++ (f (get_or src j d) ∷ [])
-        new_more = ap (map f) (keep_last m src i d j one_passes last).1 ∙ map-append f (filter m (take j src)) (get_or src j d ∷ [])
+        new_more = ap (map f) (filter_last m src i d j one_passes last).1 ∙ map-append f (filter m (take j src)) (get_or src j d ∷ [])
 
         pub merge_more : (l' : List B) (w' : ℕ) → Slid r (f (get_or src j d)) l w gap w' l' → At l' j w' (gap - 1)
         merge_more l' w' slid =

@@ -8,7 +8,7 @@ use mathlib.Core.Logic.{inl, inr}
 use mathlib.Core.Path.{◌≡◌, refl, sym, ap, ◌∙◌}
 use lib.ListN.{length}
 use Rattle.std.specs.Prelude.{filter}
-use Rattle.lists.specs.Keep.{tally}
+use Rattle.lists.specs.Tally.{tally}
 use Rattle.lists.specs.Sort.{insert_by, insert_all_by, sort_by}
 use Rattle.lists.proofs.All.{All, Each, all_any, all_map, all_map₂}
 use Rattle.lists.proofs.Order.{StrictOrder, Apart, Ascending}
@@ -68,17 +68,17 @@ module _ {A : Type 0} (before : A → A → Bool) where
   insert_all_by_behind (x ∷ xs) d l h = rw (insert_by_behind x d l h.0) (insert_all_by_behind xs d (insert_by before x l) h.1)
 
   -- what a test does not pass may be put in or not
-  keep_insert_by : (p : A → Bool) (x : A) (l : List A) → p x ≡ false → filter p (insert_by before x l) ≡ filter p l
-  keep_insert_by p x [] h = rw h
-  keep_insert_by p x (y ∷ l) h = go (before x y) (keep_insert_by p x l h)
+  filter_insert_by : (p : A → Bool) (x : A) (l : List A) → p x ≡ false → filter p (insert_by before x l) ≡ filter p l
+  filter_insert_by p x [] h = rw h
+  filter_insert_by p x (y ∷ l) h = go (before x y) (filter_insert_by p x l h)
     where
       go : (b : Bool) → filter p (insert_by before x l) ≡ filter p l → filter p (cond b (x ∷ y ∷ l) (y ∷ insert_by before x l)) ≡ filter p (y ∷ l)
       go true i = rw h
       go false i = rw i
 
-  pub keep_insert_all_by : (p : A → Bool) (xs l : List A) → All (λ (x : A). p x ≡ false) xs → filter p (insert_all_by before xs l) ≡ filter p l
-  keep_insert_all_by p [] l h = refl
-  keep_insert_all_by p (x ∷ xs) l h = keep_insert_all_by p xs (insert_by before x l) h.1 ∙ keep_insert_by p x l h.0
+  pub filter_insert_all_by : (p : A → Bool) (xs l : List A) → All (λ (x : A). p x ≡ false) xs → filter p (insert_all_by before xs l) ≡ filter p l
+  filter_insert_all_by p [] l h = refl
+  filter_insert_all_by p (x ∷ xs) l h = filter_insert_all_by p xs (insert_by before x l) h.1 ∙ filter_insert_by p x l h.0
 
   -- sorting changes no count
   tally_insert_by : (p : A → Bool) (x : A) (l : List A) → tally p (insert_by before x l) ≡ tally p (x ∷ l)

@@ -9,7 +9,7 @@ use lib.Seq.{set-append_seam, take_at, drop_at, length-take-le}
 use Rattle.std.specs.List.{list_all}
 use Rattle.lists.specs.Store.{pad_to, Stores}
 use Rattle.lists.proofs.All.{all_map, all_replicate}
-use Rattle.lists.proofs.Judge.{all_of_all, all_of_replicate}
+use Rattle.lists.proofs.Judge.{list_all_all, list_all_replicate}
 
 module _ {A : Type 0} (k : ℕ) (z : A) where
   pub pad_to_length : (xs : List A) → length xs ≤ k → length (pad_to k z xs) ≡ k
@@ -63,7 +63,7 @@ module _ {A : Type 0} (z : A) (k n : ℕ) (places : List A) where
   -- places with z in each that a test of z finds spare
   pub stores_judged : (spare : A → Bool) → ((x : A) → spare x ≡ true → x ≡ z) → length places ≡ k → n ≤ k → list_all spare (drop n places) ≡ true → Stores z k n places
   stores_judged spare is full few e =
-      let rest = all_replicate z (drop n places) (all_map (λ (x : A). spare x ≡ true) (λ (x : A). x ≡ z) is (drop n places) (all_of_all spare (drop n places) e)) in
+      let rest = all_replicate z (drop n places) (all_map (λ (x : A). spare x ≡ true) (λ (x : A). x ≡ z) is (drop n places) (list_all_all spare (drop n places) e)) in
       let gap : length (drop n places) ≡ k - n = length-drop n places ∙ ap (λ (m : ℕ). m - n) full in
       record { few = few; same = pad_to_split k z places n full few (rest ∙ ap (λ (m : ℕ). replicate m z) gap) }
 
@@ -74,7 +74,7 @@ module _ {A : Type 0} (z : A) (k : ℕ) (xs : List A) (n : ℕ) (e : length xs �
 
   -- and beyond it stand blanks
   pub spare_stored : (spare : A → Bool) → spare z ≡ true → list_all spare (drop n (pad_to k z xs)) ≡ true
-  spare_stored spare h = ap (list_all spare) (pad_to_drop k z xs n e) ∙ all_of_replicate spare (k - n) z h
+  spare_stored spare h = ap (list_all spare) (pad_to_drop k z xs n e) ∙ list_all_replicate spare (k - n) z h
 
 -- ---- rows of a given width
 

@@ -1,4 +1,4 @@
-pub mod Keep
+pub mod Tally
 pub mod Sort
 pub mod Judge
 pub mod Check

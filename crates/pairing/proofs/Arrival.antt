@@ -7,7 +7,7 @@ use Rattle.interval.specs.Interval.{proper_of, meeting_of}
 use Rattle.interval.proofs.Laws.{meeting_comm, meeting_start, meeting_later}
 use Rattle.std.specs.Prelude.{filter}
 use Rattle.lists.proofs.All.{All, Each, all_map₂, all_mapped, each_mapped}
-use Rattle.lists.proofs.Keep.{keep_passes, all_keep, each_keep}
+use Rattle.lists.proofs.Filter.{filter_passes, all_filtered, each_filtered}
 use Rattle.lists.proofs.Order.{Apart, Ascending}
 use Rattle.pairing.specs.declared.Numbered.{Numbered}
 use Rattle.pairing.specs.declared.Pair.{Pair}
@@ -67,7 +67,7 @@ pair_from_later B x y z h =
 pub new_pairs_ascending : (rule : Rule) (side : Side) (x : Numbered) (others : List Numbered) → Each Later others → Ascending comes_before (new_pairs rule side x others)
 new_pairs_ascending rule side x others h =
     rw (new_pairs_map rule side x others)
-    (each_mapped (pair_from side x) Later (λ (p q : Pair). comes_before p q ≡ true) (pair_from_later side x) (filter (pairing rule x) others) (each_keep Later (pairing rule x) others h))
+    (each_mapped (pair_from side x) Later (λ (p q : Pair). comes_before p q ≡ true) (pair_from_later side x) (filter (pairing rule x) others) (each_filtered Later (pairing rule x) others h))
 
 -- ---- a pair, seen from one of its sides
 
@@ -114,4 +114,4 @@ all_new_pairs P Q rule side x others f h =
     rw (new_pairs_map rule side x others)
     (all_mapped (pair_from side x) (λ (y : Numbered). Q y × (pairing rule x y ≡ true)) P (λ y q. f y q.0 q.1) (filter (pairing rule x) others)
     (all_map₂ Q (λ (y : Numbered). pairing rule x y ≡ true) (λ (y : Numbered). Q y × (pairing rule x y ≡ true)) (λ y q e. (q, e)) (filter (pairing rule x) others)
-    (all_keep Q (pairing rule x) others h) (keep_passes (pairing rule x) others)))
+    (all_filtered Q (pairing rule x) others h) (filter_passes (pairing rule x) others)))

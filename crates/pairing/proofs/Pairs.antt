@@ -1,4 +1,4 @@
--- Laws of the pairing test, of the pair and of the order of pairs. Nothing above this file looks into `fits`, `pairs`, `pair_of` or `comes_before`.
+-- Laws of the pairing test, of the pair and of the order of pairs. Above this file only `Rank` looks into the order, one lemma of the demands' streams into the pair, and computed examples into `fits`, `pairs`, `pair_of` or `comes_before`.
 use Prim.Native.Nat.{ℕ, ◌<◌, ◌≤◌}
 use native.Mathlib.Omega.{arith}
 use mathlib.Core.Bool.{Bool, true, false, ◌&&◌, and-false, true≢false}

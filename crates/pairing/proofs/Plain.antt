@@ -12,7 +12,7 @@ use Rattle.lists.specs.Sort.{insert_all_by}
 use Rattle.lists.proofs.All.{All, Each, all_any, all_map}
 use Rattle.lists.proofs.FlatMap.{flat_map_same, all_flat_map, each_flat_map}
 use Rattle.lists.proofs.Grid.{grid_row, grid_column}
-use Rattle.lists.proofs.Keep.{keep_flat_map, keep_perm}
+use Rattle.lists.proofs.Filter.{filter_flat_map, filter_perm}
 use Rattle.lists.proofs.Order.{Apart, Ascending}
 use Rattle.lists.proofs.Sort.{sort_by_perm, sort_by_ascending}
 use Rattle.pairing.specs.declared.Entry.{Entry}
@@ -144,13 +144,13 @@ couples_at_lem : (t : ℕ) (rule : Rule) (of_a of_b : List Numbered) → filter 
 unfolding couples_that
 couples_at_lem t rule of_a of_b =
     let now : Pair → Bool = λ p. holds_at t p.meeting in
-    keep_flat_map now (λ (a : Numbered). flat_map (couple_that (pairs rule) a) of_b) of_a
+    filter_flat_map now (λ (a : Numbered). flat_map (couple_that (pairs rule) a) of_b) of_a
     ∙ flat_map_same (λ (a : Numbered). filter now (flat_map (couple_that (pairs rule) a) of_b)) (λ (a : Numbered). flat_map (couple_that (match_at t rule) a) of_b)
-    (λ a. keep_flat_map now (couple_that (pairs rule) a) of_b ∙ flat_map_same (λ (b : Numbered). filter now (couple_that (pairs rule) a b)) (couple_that (match_at t rule) a) (couple_at t rule a) of_b) of_a
+    (λ a. filter_flat_map now (couple_that (pairs rule) a) of_b ∙ flat_map_same (λ (b : Numbered). filter now (couple_that (pairs rule) a b)) (couple_that (match_at t rule) a) (couple_at t rule a) of_b) of_a
 
 -- with repeats, the pairs of the plain list that hold at t are the matching couples of entries that hold at t
 pub plain_at : (t : ℕ) (rule : Rule) (of_a of_b : List Entry) → Perm (filter (λ (p : Pair). holds_at t p.meeting) (plain rule of_a of_b)) (couples_at t rule of_a of_b)
 unfolding couples_at
 plain_at t rule of_a of_b =
     rw (couples_at_lem t rule (numbered_from 0 of_a) (numbered_from 0 of_b)) at
-    (keep_perm (λ (p : Pair). holds_at t p.meeting) (plain rule of_a of_b) (couples_that (pairs rule) (numbered_from 0 of_a) (numbered_from 0 of_b)) (plain_perm rule of_a of_b))
+    (filter_perm (λ (p : Pair). holds_at t p.meeting) (plain rule of_a of_b) (couples_that (pairs rule) (numbered_from 0 of_a) (numbered_from 0 of_b)) (plain_perm rule of_a of_b))

@@ -18,7 +18,7 @@ use Rattle.lists.specs.Judge.{chain}
 use Rattle.lists.specs.Sort.{insert_all_by}
 use Rattle.lists.proofs.All.{each_map}
 use Rattle.lists.proofs.Bools.{and_left, and_right}
-use Rattle.lists.proofs.First.{Down, keep_prefix}
+use Rattle.lists.proofs.First.{Down, filter_prefix}
 use Rattle.lists.proofs.InPlace.{moved_padded, padded_over}
 use Rattle.lists.proofs.Judge.{Passes, passes, chain_each}
 use Rattle.lists.proofs.Order.{Ascending}
@@ -107,7 +107,7 @@ ready_down = due_down (λ (p : Pair). p.meeting.start) comes_before before_start
 -- so the front that is ready is all that is
 pub ready_front : (queue : Queue) (a b : Gate) → chain comes_before (waiting queue) ≡ true → filter (ready a b) (waiting queue) ≡ take (prefix_len (ready a b) (waiting queue)) (waiting queue)
 ready_front queue a b sorted =
-    keep_prefix (ready a b) (waiting queue) (each_map (λ (p q : Pair). comes_before p q ≡ true) (Down (ready a b)) (ready_down a b) (waiting queue) (ascending_waiting queue sorted))
+    filter_prefix (ready a b) (waiting queue) (each_map (λ (p q : Pair). comes_before p q ≡ true) (Down (ready a b)) (ready_down a b) (waiting queue) (ascending_waiting queue sorted))
 
 module _ (queue : Queue) (h : Holds queue) where
   pub holds_length : length queue.places ≡ places

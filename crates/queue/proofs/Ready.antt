@@ -10,7 +10,7 @@ use Rattle.pairing.specs.Pair.{comes_before}
 use Rattle.pairing.proofs.Pairs.{before_start}
 use Rattle.journal.specs.declared.Gate.{Gate}
 use Rattle.journal.specs.declared.Gate.TheVariants.{Open}
-use Rattle.journal.proofs.Due.{keep_due_comm, due_ahead, due_head, due_grows}
+use Rattle.journal.proofs.Due.{filter_due_comm, due_ahead, due_head, due_grows}
 use Rattle.journal.proofs.Onward.{Onward}
 use Rattle.queue.specs.Queue.{ready}
 
@@ -18,9 +18,9 @@ use Rattle.queue.specs.Queue.{ready}
 abbrev pub start : Pair → ℕ
 start p = p.meeting.start
 
-pub keep_ready_comm : (a b : Gate) (ps : List Pair) → filter (ready a b) ps ≡ filter (ready b a) ps
+pub filter_ready_comm : (a b : Gate) (ps : List Pair) → filter (ready a b) ps ≡ filter (ready b a) ps
 unfolding ready
-keep_ready_comm = keep_due_comm start
+filter_ready_comm = filter_due_comm start
 
 pub ready_ahead : (a b : Gate) (time : ℕ) → Onward a (Open time) → (p : Pair) → time ≤ p.meeting.start → ready a b p ≡ false
 unfolding ready

@@ -12,7 +12,7 @@ use Rattle.interval.specs.Interval.{proper_of}
 use Rattle.lists.specs.Sort.{insert_all_by}
 use Rattle.lists.proofs.All.{All, Each, all_map, all_drop, each_map, each_drop}
 use Rattle.lists.proofs.Bools.{and_left, and_right}
-use Rattle.lists.proofs.Judge.{all_of_all, all_all_of, each_chain}
+use Rattle.lists.proofs.Judge.{list_all_all, all_list_all, each_chain}
 use Rattle.lists.proofs.Order.{Apart, Ascending}
 use Rattle.lists.proofs.Sort.{insert_all_by_length, all_insert_all_by, insert_all_by_ascending}
 use Rattle.lists.proofs.Store.{pad_to_take, stores_stored, spare_stored}
@@ -90,7 +90,7 @@ module _ (of_a of_b : ℕ) where
       let all = queue_passes of_a of_b queue e in
       record {
         few = omega (arith, waiting_length queue h, h.few);
-        sounds = all_map (λ (p : Pair). sound_pair of_a of_b p ≡ true) (SoundPair A of_a of_b) pair_facts ps (all_of_all (sound_pair of_a of_b) ps all.sounds_pass);
+        sounds = all_map (λ (p : Pair). sound_pair of_a of_b p ≡ true) (SoundPair A of_a of_b) pair_facts ps (list_all_all (sound_pair of_a of_b) ps all.sounds_pass);
         ascends = ascending_waiting queue all.order_pass;
       }
 
@@ -101,7 +101,7 @@ module _ (of_a of_b : ℕ) where
       rw (
         waiting_stored ps,
         le-leb (length ps) places h.few,
-        all_all_of (sound_pair of_a of_b) ps (all_map (SoundPair A of_a of_b) (λ (p : Pair). sound_pair of_a of_b p ≡ true) pair_judged ps h.sounds),
+        all_list_all (sound_pair of_a of_b) ps (all_map (SoundPair A of_a of_b) (λ (p : Pair). sound_pair of_a of_b p ≡ true) pair_judged ps h.sounds),
         each_chain comes_before ps h.ascends,
         spare_stored no_pair places ps (length ps) refl spare_pair none_spare,
       )

@@ -4,7 +4,7 @@ use native.Mathlib.Omega.{arith}
 use mathlib.Core.Bool.{Bool}
 use mathlib.Core.Path.{◌≡◌, sym, ap, ◌∙◌}
 use lib.ListN.{length, take, length-take}
-use Rattle.lists.specs.Keep.{last_place}
+use Rattle.lists.specs.Tally.{last_place}
 use Rattle.lists.proofs.Last.{last_here, last_lower}
 use Rattle.pairing.specs.declared.Numbered.{Numbered}
 use Rattle.pairing.specs.Pair.{pairs}

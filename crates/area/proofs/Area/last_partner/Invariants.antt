@@ -1,6 +1,6 @@
 -- While it runs, none from i on is a partner.
 use Rattle.std.proofs.Common.{◌≡◌, ◌≤◌, take}
-use Rattle.lists.specs.Keep.{last_place}
+use Rattle.lists.specs.Tally.{last_place}
 use Rattle.pairing.specs.declared.Numbered.{Numbered}
 use Rattle.pairing.specs.Pair.{pairs}
 use Rattle.area.specs.Area.{held}

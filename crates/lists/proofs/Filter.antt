@@ -9,73 +9,66 @@ use mathlib.Core.Path.{◌≡◌, refl, sym, ap, ◌∙◌}
 use lib.ListN.{length, take, drop, length-take, length-append}
 use lib.Seq.{take-add}
 use Rattle.std.specs.Prelude.{filter}
-use Rattle.lists.specs.Keep.{tally}
+use Rattle.std.proofs.lemmas.List.Elements.{filter-append}
+use Rattle.lists.specs.Tally.{tally}
 use Rattle.lists.proofs.All.{All, Each}
 
 module _ {A : Type 0} (p : A → Bool) where
-  pub keep_append : (xs ys : List A) → filter p (xs ++ ys) ≡ filter p xs ++ filter p ys
-  keep_append [] ys = refl
-  keep_append (x ∷ xs) ys = go (p x) (keep_append xs ys)
-    where
-      go : (b : Bool) → filter p (xs ++ ys) ≡ filter p xs ++ filter p ys → cond b (x ∷ filter p (xs ++ ys)) (filter p (xs ++ ys)) ≡ cond b (x ∷ filter p xs) (filter p xs) ++ filter p ys
-      go true e = ap {B = List A} (λ r. x ∷ r) e
-      go false e = e
+  pub filter_all : (xs : List A) → All (λ (x : A). p x ≡ true) xs → filter p xs ≡ xs
+  filter_all [] h = refl
+  filter_all (x ∷ xs) h = rw (h.0, filter_all xs h.1)
 
-  pub keep_all : (xs : List A) → All (λ (x : A). p x ≡ true) xs → filter p xs ≡ xs
-  keep_all [] h = refl
-  keep_all (x ∷ xs) h = rw (h.0, keep_all xs h.1)
+  pub filter_none : (xs : List A) → All (λ (x : A). p x ≡ false) xs → filter p xs ≡ []
+  filter_none [] h = refl
+  filter_none (x ∷ xs) h = rw h.0 (filter_none xs h.1)
 
-  pub keep_none : (xs : List A) → All (λ (x : A). p x ≡ false) xs → filter p xs ≡ []
-  keep_none [] h = refl
-  keep_none (x ∷ xs) h = rw h.0 (keep_none xs h.1)
-
-  pub keep_passes : (xs : List A) → All (λ (x : A). p x ≡ true) (filter p xs)
-  keep_passes [] = tt
-  keep_passes (x ∷ xs) = go (p x) refl (keep_passes xs)
+  pub filter_passes : (xs : List A) → All (λ (x : A). p x ≡ true) (filter p xs)
+  filter_passes [] = tt
+  filter_passes (x ∷ xs) = go (p x) refl (filter_passes xs)
     where
       go : (b : Bool) → p x ≡ b → All (λ (y : A). p y ≡ true) (filter p xs) → All (λ (y : A). p y ≡ true) (cond b (x ∷ filter p xs) (filter p xs))
       go true e i = (e, i)
       go false e i = i
 
-  pub keep_length : (xs : List A) → length (filter p xs) ≤ length xs
-  keep_length [] = omega arith
-  keep_length (x ∷ xs) = go (p x) (keep_length xs)
+  pub filter_length : (xs : List A) → length (filter p xs) ≤ length xs
+  filter_length [] = omega arith
+  filter_length (x ∷ xs) = go (p x) (filter_length xs)
     where
       go : (b : Bool) → length (filter p xs) ≤ length xs → length (cond b (x ∷ filter p xs) (filter p xs)) ≤ suc (length xs)
       go true h = omega arith
       go false h = omega arith
 
   -- what is kept of the first i is at most i
-  pub keep_bound : (l : List A) (i : ℕ) → length (filter p (take i l)) ≤ i
-  keep_bound l i = omega (arith, keep_length (take i l), length-take i l)
+  pub filter_bound : (l : List A) (i : ℕ) → length (filter p (take i l)) ≤ i
+  filter_bound l i = omega (arith, filter_length (take i l), length-take i l)
 
   -- fewer elements looked at, no more kept
-  pub keep_fewer : (l : List A) (i n : ℕ) → i ≤ n → length (filter p (take i l)) ≤ length (filter p (take n l))
-  keep_fewer l i n h =
+  pub filter_fewer : (l : List A) (i n : ℕ) → i ≤ n → length (filter p (take i l)) ≤ length (filter p (take n l))
+  filter_fewer l i n h =
       let up : i + (n - i) ≡ n = omega arith in
       let cut : take n l ≡ take i l ++ take (n - i) (drop i l) = ap (λ (m : ℕ). take m l) (sym up) ∙ take-add i (n - i) l in
       omega (
         arith,
         ap (λ (t : List A). length (filter p t)) cut,
-        ap length (keep_append (take i l) (take (n - i) (drop i l))),
+        ap length (filter-append p (take i l) (take (n - i) (drop i l))),
         length-append (filter p (take i l)) (filter p (take (n - i) (drop i l))),
       )
 
   -- the filter by a decision, that the decision that the test is true
-  keep_filter : (xs : List A) → filter p xs ≡ filter_if {p = λ (x : A). p x ≡ true} (λ x. Bool-discrete (p x) true) xs
-  keep_filter [] = refl
-  keep_filter (x ∷ xs) = go (p x) (keep_filter xs)
+  filter_decided : (xs : List A) → filter p xs ≡ filter_if {p = λ (x : A). p x ≡ true} (λ x. Bool-discrete (p x) true) xs
+  filter_decided [] = refl
+  filter_decided (x ∷ xs) = go (p x) (filter_decided xs)
     where
       go : (b : Bool) {rest : List A} → filter p xs ≡ rest → cond b (x ∷ filter p xs) (filter p xs) ≡ ite {C = List A} (Bool-discrete b true) (x ∷ rest) rest
       go true e = ap {B = List A} (λ m. x ∷ m) e
       go false e = e
 
-  pub keep_perm : (xs ys : List A) → Perm xs ys → Perm (filter p xs) (filter p ys)
-  keep_perm xs ys h = rw (keep_filter xs, keep_filter ys) (Perm.filter {p = λ (x : A). p x ≡ true} (λ x. Bool-discrete (p x) true) h)
+  pub filter_perm : (xs ys : List A) → Perm xs ys → Perm (filter p xs) (filter p ys)
+  filter_perm xs ys h = rw (filter_decided xs, filter_decided ys) (Perm.filter {p = λ (x : A). p x ≡ true} (λ x. Bool-discrete (p x) true) h)
 
-  pub tally_keep : (xs : List A) → tally p xs ≡ length (filter p xs)
-  tally_keep [] = refl
-  tally_keep (x ∷ xs) = go (p x) (tally_keep xs)
+  pub tally_filter : (xs : List A) → tally p xs ≡ length (filter p xs)
+  tally_filter [] = refl
+  tally_filter (x ∷ xs) = go (p x) (tally_filter xs)
     where
       go : (b : Bool) → tally p xs ≡ length (filter p xs) → cond b (suc (tally p xs)) (tally p xs) ≡ length (cond b (x ∷ filter p xs) (filter p xs))
       go true e = ap suc e
@@ -90,14 +83,14 @@ module _ {A : Type 0} (p : A → Bool) where
       go false e = e
 
 module _ {A : Type 0} where
-  pub keep_same_test : (p q : A → Bool) → ((x : A) → p x ≡ q x) → (xs : List A) → filter p xs ≡ filter q xs
-  keep_same_test p q h [] = refl
-  keep_same_test p q h (x ∷ xs) = rw (h x, keep_same_test p q h xs)
+  pub filter_same_test : (p q : A → Bool) → ((x : A) → p x ≡ q x) → (xs : List A) → filter p xs ≡ filter q xs
+  filter_same_test p q h [] = refl
+  filter_same_test p q h (x ∷ xs) = rw (h x, filter_same_test p q h xs)
 
   -- a test that passes less, after one that passes more
-  pub keep_keep : (p q : A → Bool) → ((x : A) → p x ≡ true → q x ≡ true) → (xs : List A) → filter p (filter q xs) ≡ filter p xs
-  keep_keep p q i [] = refl
-  keep_keep p q i (x ∷ xs) = go (p x) (q x) refl refl (keep_keep p q i xs)
+  pub filter_again : (p q : A → Bool) → ((x : A) → p x ≡ true → q x ≡ true) → (xs : List A) → filter p (filter q xs) ≡ filter p xs
+  filter_again p q i [] = refl
+  filter_again p q i (x ∷ xs) = go (p x) (q x) refl refl (filter_again p q i xs)
     where
       go : (b c : Bool) → p x ≡ b → q x ≡ c → filter p (filter q xs) ≡ filter p xs → filter p (cond c (x ∷ filter q xs) (filter q xs)) ≡ cond b (x ∷ filter p xs) (filter p xs)
       go true true h k e = rw (h, e)
@@ -118,7 +111,7 @@ module _ {A : Type 0} where
 
   -- what another test lets through is counted, what it stops is not
   pub tally_through : (p q : A → Bool) → ((x : A) → p x ≡ true → q x ≡ true) → (xs : List A) → tally p (filter q xs) ≡ tally p xs
-  tally_through p q i xs = tally_keep p (filter q xs) ∙ ap length (keep_keep p q i xs) ∙ sym (tally_keep p xs)
+  tally_through p q i xs = tally_filter p (filter q xs) ∙ ap length (filter_again p q i xs) ∙ sym (tally_filter p xs)
 
   pub tally_stopped : (p q : A → Bool) → ((x : A) → p x ≡ true → q x ≡ false) → (xs : List A) → tally p (filter q xs) ≡ 0
   tally_stopped p q i [] = refl
@@ -130,34 +123,34 @@ module _ {A : Type 0} where
       go false true h k e = rw h e
       go false false h k e = e
 
-  pub all_keep : (P : A → Type 0) (p : A → Bool) (xs : List A) → All P xs → All P (filter p xs)
-  all_keep P p [] h = tt
-  all_keep P p (x ∷ xs) h = go (p x) (all_keep P p xs h.1)
+  pub all_filtered : (P : A → Type 0) (p : A → Bool) (xs : List A) → All P xs → All P (filter p xs)
+  all_filtered P p [] h = tt
+  all_filtered P p (x ∷ xs) h = go (p x) (all_filtered P p xs h.1)
     where
       go : (b : Bool) → All P (filter p xs) → All P (cond b (x ∷ filter p xs) (filter p xs))
       go true i = (h.0, i)
       go false i = i
 
-  pub each_keep : (R : A → A → Type 0) (p : A → Bool) (xs : List A) → Each R xs → Each R (filter p xs)
-  each_keep R p [] h = tt
-  each_keep R p (x ∷ xs) h = go (p x) (each_keep R p xs h.1)
+  pub each_filtered : (R : A → A → Type 0) (p : A → Bool) (xs : List A) → Each R xs → Each R (filter p xs)
+  each_filtered R p [] h = tt
+  each_filtered R p (x ∷ xs) h = go (p x) (each_filtered R p xs h.1)
     where
       go : (b : Bool) → Each R (filter p xs) → Each R (cond b (x ∷ filter p xs) (filter p xs))
-      go true i = (all_keep (R x) p xs h.0, i)
+      go true i = (all_filtered (R x) p xs h.0, i)
       go false i = i
 
-pub keep_map : {A B : Type 0} (p : B → Bool) (f : A → B) (xs : List A) → filter p (map f xs) ≡ map f (filter (λ (x : A). p (f x)) xs)
-keep_map p f [] = refl
-keep_map {A} {B} p f (x ∷ xs) = go (p (f x)) (keep_map p f xs)
+pub filter_mapped : {A B : Type 0} (p : B → Bool) (f : A → B) (xs : List A) → filter p (map f xs) ≡ map f (filter (λ (x : A). p (f x)) xs)
+filter_mapped p f [] = refl
+filter_mapped {A} {B} p f (x ∷ xs) = go (p (f x)) (filter_mapped p f xs)
   where
     go : (b : Bool) → filter p (map f xs) ≡ map f (filter (λ (x : A). p (f x)) xs) → cond b (f x ∷ filter p (map f xs)) (filter p (map f xs)) ≡ map f (cond b (x ∷ filter (λ (x : A). p (f x)) xs) (filter (λ (x : A). p (f x)) xs))
     go true e = ap {B = List B} (λ m. f x ∷ m) e
     go false e = e
 
-pub keep_flat_map : {A B : Type 0} (p : B → Bool) (f : A → List B) (xs : List A) → filter p (flat_map f xs) ≡ flat_map (λ (x : A). filter p (f x)) xs
+pub filter_flat_map : {A B : Type 0} (p : B → Bool) (f : A → List B) (xs : List A) → filter p (flat_map f xs) ≡ flat_map (λ (x : A). filter p (f x)) xs
 unfolding flat_map
-keep_flat_map p f [] = refl
-keep_flat_map p f (x ∷ xs) = rw (keep_append, keep_flat_map p f xs)
+filter_flat_map p f [] = refl
+filter_flat_map p f (x ∷ xs) = rw (filter-append, filter_flat_map p f xs)
 
 pub tally_map : {A B : Type 0} (p : B → Bool) (f : A → B) (xs : List A) → tally p (map f xs) ≡ tally (λ (x : A). p (f x)) xs
 tally_map p f [] = refl
