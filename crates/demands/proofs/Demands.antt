@@ -28,9 +28,8 @@ use Rattle.journal.proofs.Facts.{mark_met}
 use Rattle.queue.specs.Queue.{ready}
 use Rattle.halves.specs.Calls.{entry_rows, after_move, close_rows}
 use Rattle.halves.proofs.Facts.{entry_met, close_met}
-use Rattle.join.specs.Calls.{Handed, Waiting, Finished, Refused}
+use Rattle.join.specs.Calls.{Handed, Waiting, Finished, Refused, side_of, entry_call, mark_call, close_call, take_call, take_on, next_of, waiting_in, ready_in, both_closed}
 use Rattle.join.specs.State.{State, view, sound}
-use Rattle.join.specs.Calls.{side_of, entry_call, mark_call, close_call, take_call, take_on, next_of, waiting_in, ready_in, both_closed}
 use Rattle.join.proofs.Facts.{judged_met}
 use Rattle.join.proofs.View.{view_state_of}
 use Rattle.demands.specs.Demands.{pairs_of, EachInstant, Joins, TermsOnce, Multiplies, HoldsWanted, CountsAccepted, plain_of, FirstStretch, BelowClocks, Whole, FinishedWhole, NoMore, OnlyTakes, Agree, RuleStays, accepted_of, StartsFrom, Demands, ran}

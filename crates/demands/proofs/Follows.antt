@@ -16,10 +16,9 @@ use Rattle.pairing.specs.declared.Pair.{Pair}
 use Rattle.pairing.specs.declared.Side.{Side}
 use Rattle.pairing.specs.declared.Side.TheVariants.{A, B}
 use Rattle.pairing.specs.Pair.{comes_before}
-use Rattle.journal.specs.Answer.{Answer, Accepted, Refused}
+use Rattle.journal.specs.Answer.{Answer, Accepted, Refused, unless_refused}
 use Rattle.journal.specs.declared.Gate.{Gate}
 use Rattle.journal.specs.declared.Gate.TheVariants.{Open, Closed}
-use Rattle.journal.specs.Answer.{unless_refused}
 use Rattle.journal.specs.Journal.{below, is_closed}
 use Rattle.queue.specs.Queue.{ready}
 use Rattle.halves.specs.View.{View}

@@ -27,10 +27,9 @@ use Rattle.pairing.specs.Side.{pair_from, new_pairs}
 use Rattle.pairing.proofs.Arrival.{pairing, new_pairs_map}
 use Rattle.pairing.proofs.Pairs.{pairs_ended_b, pair_meeting, before_start}
 use Rattle.pairing.proofs.Plain.{numbered_snoc, plain_a, plain_b}
-use Rattle.journal.specs.Answer.{Answer, Accepted, Refused}
+use Rattle.journal.specs.Answer.{Answer, Accepted, Refused, unless_refused}
 use Rattle.journal.specs.declared.Gate.{Gate}
 use Rattle.journal.specs.declared.Gate.TheVariants.{Open, Closed}
-use Rattle.journal.specs.Answer.{unless_refused}
 use Rattle.journal.specs.Journal.{wanted, below, mark_rows}
 use Rattle.area.specs.Area.{wanted_by}
 use Rattle.queue.specs.Queue.{ready}

@@ -13,9 +13,8 @@ use Rattle.journal.specs.Answer.{number_of, first_of}
 use Rattle.journal.specs.Journal.{mark_rows, own_rows}
 use Rattle.journal.proofs.Rows.{number_rows}
 use Rattle.halves.specs.Calls.{key_rows, room_for, entry_rows, close_rows}
-use Rattle.join.specs.Calls.{Handed, Waiting}
+use Rattle.join.specs.Calls.{Handed, Waiting, side_of, judge_rows, entry_call, mark_call, close_call, ready_in, both_closed, waiting_in, next_of, take_on, take_call, took_number}
 use Rattle.join.specs.State.{State, Sound, view}
-use Rattle.join.specs.Calls.{side_of, judge_rows, entry_call, mark_call, close_call, ready_in, both_closed, waiting_in, next_of, take_on, take_call, took_number}
 use Rattle.join.proofs.Kept.{sound_fresh, entry_kept, mark_kept, close_kept, take_kept}
 use Rattle.join.proofs.Ready.{take_sound}
 use Rattle.demands.specs.History.{Call, Enter, Mark, Close, Take, after, World, begin, step, run}

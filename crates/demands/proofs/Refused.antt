@@ -6,13 +6,10 @@ use Rattle.pairing.specs.declared.Entry.{Entry}
 use Rattle.pairing.specs.declared.Pair.{Pair}
 use Rattle.pairing.specs.declared.Side.{Side}
 use Rattle.pairing.specs.declared.Side.TheVariants.{A, B}
-use Rattle.journal.specs.Answer.{Answer}
+use Rattle.journal.specs.Answer.{Answer, unless_refused}
 use Rattle.journal.specs.Answer as answer
-use Rattle.journal.specs.Answer.{unless_refused}
-use Rattle.join.specs.Calls.{Took}
-use Rattle.join.specs.Calls.{Handed, Waiting, Finished, Refused}
+use Rattle.join.specs.Calls.{Took, Handed, Waiting, Finished, Refused, entry_call, mark_call, close_call, take_call, take_on, next_of, after_take, ready_in, both_closed, waiting_in}
 use Rattle.join.specs.State.{State, sound}
-use Rattle.join.specs.Calls.{entry_call, mark_call, close_call, take_call, take_on, next_of, after_take, ready_in, both_closed, waiting_in}
 use Rattle.demands.specs.History.{Call, Enter, Mark, Close, Take, after, accepts, hands, handed_by, World, step, run, is_refusal, is_take_refusal, refused, heeded}
 
 unless_refused_lem : {A : Type 0} (a : Answer) (new old : A) → is_refusal a ≡ true → unless_refused a new old ≡ old

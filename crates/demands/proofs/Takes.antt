@@ -7,9 +7,8 @@ use mathlib.Core.Path.{◌≡◌, refl, sym, ap, ◌∙◌}
 use lib.ListN.{length, replicate, take, drop, length-take, take-append-drop}
 use lib.Seq.{length-take-le}
 use Rattle.pairing.specs.declared.Pair.{Pair}
-use Rattle.join.specs.Calls.{Took}
+use Rattle.join.specs.Calls.{Took, Outcome, without, ready_of}
 use Rattle.join.specs.State.{Sound}
-use Rattle.join.specs.Calls.{Outcome, without, ready_of}
 use Rattle.join.proofs.Ready.{ready_few, Grows, entry_grows, mark_grows, close_grows, take_ready, taken_from, takes_together}
 use Rattle.demands.specs.History.{Call, Enter, Mark, Close, Take, after, handed_by, hands, World, step, run}
 use Rattle.demands.specs.Takes.{takes, ready_now, KthTake}

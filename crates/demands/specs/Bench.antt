@@ -8,10 +8,9 @@ use Rattle.pairing.specs.declared.Rule.{Rule}
 use Rattle.pairing.specs.declared.Rule.TheVariants.{Equal, Near}
 use Rattle.journal.specs.Answer.{Answer}
 use Rattle.journal.specs.Answer as answer
-use Rattle.join.specs.Calls.{Took}
+use Rattle.join.specs.Calls.{Took, entry_call, mark_call, close_call, take_call, waiting_in, ready_in}
 use Rattle.join.specs.Calls as took
 use Rattle.join.specs.State.{State}
-use Rattle.join.specs.Calls.{entry_call, mark_call, close_call, take_call, waiting_in, ready_in}
 use Rattle.demands.specs.History.{Call, Enter, Mark, Close, Take, after, begin, run}
 
 -- ---- what a bench looks at

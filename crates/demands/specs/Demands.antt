@@ -1,9 +1,8 @@
 -- Demands 2 and 3 and what stays through a run, of any calls with any arguments made of a fresh join with any rule.
-use Rattle.std.specs.Prelude.{ℕ, ◌*◌, true, cond, ◌||◌, ◌≡◌, leb, length}
+use Rattle.std.specs.Prelude.{ℕ, ◌*◌, true, cond, ◌||◌, ◌≡◌, leb, length, filter}
 use mathlib.Core.List.{List, [], ◌∷◌, ◌++◌, Perm, IsPrefix}
 use Rattle.interval.specs.Interval.{holds_at}
 use Rattle.std.specs.List.{list_all}
-use Rattle.std.specs.Prelude.{filter}
 use Rattle.pairing.specs.declared.Entry.{Entry}
 use Rattle.pairing.specs.declared.Pair.{Pair}
 use Rattle.pairing.specs.declared.Rule.{Rule}
@@ -13,9 +12,8 @@ use Rattle.pairing.specs.Plain.{numbered_from, plain, couples_at}
 use Rattle.journal.specs.Answer.{Accepted}
 use Rattle.journal.specs.Journal.{is_closed}
 use Rattle.area.specs.Area as area
-use Rattle.join.specs.Calls.{Finished}
+use Rattle.join.specs.Calls.{Finished, waiting_in, ready_in, ready_of, both_closed, side_of, mark_call, take_call}
 use Rattle.join.specs.State.{fresh_state}
-use Rattle.join.specs.Calls.{waiting_in, ready_in, ready_of, both_closed, side_of, mark_call, take_call}
 use Rattle.demands.specs.History.{Call, Mark, is_take, World, begin, run, refused, heeded}
 use Rattle.demands.specs.Stream.{EachOnce, Element, same_element, Couple, couple, same_couple, joined, stream_of, stream_of_pairs, matches}
 

@@ -5,13 +5,10 @@ use Rattle.pairing.specs.declared.Pair.{Pair}
 use Rattle.pairing.specs.declared.Rule.{Rule}
 use Rattle.pairing.specs.declared.Side.{Side}
 use Rattle.pairing.specs.declared.Side.TheVariants.{A, B}
-use Rattle.journal.specs.Answer.{Answer}
+use Rattle.journal.specs.Answer.{Answer, unless_refused}
 use Rattle.journal.specs.Answer as answer
-use Rattle.journal.specs.Answer.{unless_refused}
-use Rattle.join.specs.Calls.{Took}
-use Rattle.join.specs.Calls.{Handed, Waiting, Finished, Refused}
+use Rattle.join.specs.Calls.{Took, Handed, Waiting, Finished, Refused, side_of, entry_call, mark_call, close_call, take_call}
 use Rattle.join.specs.State.{State, fresh_state}
-use Rattle.join.specs.Calls.{side_of, entry_call, mark_call, close_call, take_call}
 
 pub data Call : Type 0 where
   Enter : ℕ → Entry → Call

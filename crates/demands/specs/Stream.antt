@@ -1,8 +1,7 @@
 -- Logical streams and their join, as source document 000 writes them: definition 2.3, the conversion of section 2.3.4, and definition 8.5.
-use Rattle.std.specs.Prelude.{ℕ, ◌+◌, ◌*◌, ◌<◌, Bool, cond, not, ◌&&◌, List, [], ◌∷◌, map, ◌≡◌, eqb}
+use Rattle.std.specs.Prelude.{ℕ, ◌+◌, ◌*◌, ◌<◌, Bool, cond, not, ◌&&◌, List, [], ◌∷◌, map, ◌≡◌, eqb, filter}
 use Rattle.interval.specs.declared.Interval.{Interval}
 use Rattle.interval.specs.Interval.{holds_at}
-use Rattle.std.specs.Prelude.{filter}
 use Rattle.lists.specs.Tally.{tally}
 use Rattle.pairing.specs.declared.Entry.{Entry}
 use Rattle.pairing.specs.declared.Pair.{Pair}

@@ -1,9 +1,8 @@
 -- The pair that is k-th among the ready ones is handed out by the k-th take from now, at most 256, whatever accepted calls come between.
 use Rattle.std.specs.Prelude.{ℕ, suc, ◌≤◌, List, [], ◌∷◌, ◌++◌, ◌≡◌, length, take}
 use Rattle.pairing.specs.declared.Pair.{Pair}
-use Rattle.join.specs.Calls.{Handed}
+use Rattle.join.specs.Calls.{Handed, ready_of, take_call}
 use Rattle.join.specs.State.{Sound}
-use Rattle.join.specs.Calls.{ready_of, take_call}
 use Rattle.demands.specs.History.{Call, Enter, Mark, Close, Take, World, run}
 
 -- how many of the calls are takes

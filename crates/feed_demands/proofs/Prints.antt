@@ -27,9 +27,8 @@ use Rattle.demands.specs.History.{Call, World, begin, run}
 use Rattle.demands.specs.Takes.{ready_now}
 use Rattle.demands.proofs.Demands.{run_append, demands}
 use Rattle.demands.proofs.Reached.{sound_run}
-use Rattle.feed.specs.Reading.{Reading, Found, Refused as refused_reading, End}
+use Rattle.feed.specs.Reading.{Reading, Found, Refused as refused_reading, End, reading}
 use Rattle.feed.specs.declared.Record.{Record}
-use Rattle.feed.specs.Reading.{reading}
 use Rattle.feed.proofs.Readings.{found_ends}
 use Rattle.framing.specs.Program.{next_of, deed, continued, printed_from, printed_by}
 use Rattle.lines.specs.Line.{line}

@@ -8,8 +8,7 @@ use lib.Seq.{take-length}
 use Rattle.pairing.specs.declared.Pair.{Pair}
 use Rattle.pairing.specs.declared.Side.{Side}
 use Rattle.pairing.specs.declared.Side.TheVariants.{A, B}
-use Rattle.journal.specs.Answer.{Answer, Accepted, Refused}
-use Rattle.journal.specs.Answer.{unless_refused}
+use Rattle.journal.specs.Answer.{Answer, Accepted, Refused, unless_refused}
 use Rattle.join.specs.State.{State, Sound}
 use Rattle.join.specs.Calls.{side_of, ready_of, without}
 use Rattle.join.proofs.Kept.{without_kept}

@@ -4,10 +4,9 @@ use Rattle.pairing.specs.declared.Rule.{Rule}
 use Rattle.journal.specs.Answer.{Answer, Accepted, Refused}
 use Rattle.demands.specs.History.{Call, Enter, Mark, Close, Take, World, begin, run}
 use Rattle.demands.specs.Takes.{ready_now}
-use Rattle.feed.specs.Reading.{Reading, Found, Refused as refused_reading, End}
+use Rattle.feed.specs.Reading.{Reading, Found, Refused as refused_reading, End, reading}
 use Rattle.feed.specs.declared.Record.{Record}
 use Rattle.feed.specs.declared.Record.TheVariants as record_of
-use Rattle.feed.specs.Reading.{reading}
 use Rattle.steps.specs.Printed.{heard}
 
 -- the call of a record; a note rides along and affects nothing

@@ -1,7 +1,6 @@
 -- What is printed of a feed, by any rule, is what the join hands out, so that the demands speak of it. joinfeed prints it by equal keys.
-use Rattle.std.specs.Prelude.{ℕ, ◌≡◌, length}
+use Rattle.std.specs.Prelude.{ℕ, ◌≡◌, length, filter}
 use mathlib.Core.List.{List, [], ◌∷◌, ◌++◌, IsPrefix}
-use Rattle.std.specs.Prelude.{filter}
 use Rattle.pairing.specs.declared.Rule.{Rule}
 use Rattle.pairing.specs.declared.Side.TheVariants.{A, B}
 use Rattle.join.specs.State.{Sound}

@@ -8,10 +8,9 @@ use Rattle.pairing.specs.declared.Side.TheVariants.{A, B}
 use Rattle.pairing.specs.Plain.{plain}
 use Rattle.join.specs.Calls.{side_of}
 use Rattle.demands.specs.History.{of_side}
-use Rattle.feed.specs.Reading.{Reading, Found, Refused, End}
+use Rattle.feed.specs.Reading.{Reading, Found, Refused, End, reading}
 use Rattle.feed.specs.declared.Record.{Record}
 use Rattle.feed.specs.declared.Record.TheVariants as record_of
-use Rattle.feed.specs.Reading.{reading}
 
 -- A reading answers a record with the place of the next, or a refusal, or End.
 abbrev pub records_at : (List ℕ → List Record) → List ℕ → Reading → List Record

@@ -7,8 +7,7 @@ use lib.Dec.{leb}
 use borrow.Author.Tests.{ltb-false, not-false}
 use Rattle.lists.specs.Check.{Check}
 use Rattle.lists.proofs.Bools.{and_left, and_right}
-use Rattle.journal.specs.Answer.{Accepted}
-use Rattle.journal.specs.Answer.{first_of}
+use Rattle.journal.specs.Answer.{Accepted, first_of}
 use Rattle.journal.specs.Journal.{entries}
 use Rattle.journal.proofs.Rows.{accepted_rows, accepted_both}
 use Rattle.area.specs.Area as area

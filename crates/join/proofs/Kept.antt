@@ -25,9 +25,8 @@ use Rattle.halves.specs.Calls.{entry_rows, after_entry, after_move, close_rows}
 use Rattle.halves.proofs.Facts.{entry_met}
 use Rattle.halves.proofs.Kept.{SoundView, sound_turned, sound_move, sound_entry_lem}
 use Rattle.halves.proofs.View.{turned}
-use Rattle.join.specs.Calls.{Took, Handed, Waiting, Finished, Refused}
+use Rattle.join.specs.Calls.{Took, Handed, Waiting, Finished, Refused, called, side_of, judge_rows, entry_on, entry_call, mark_on, mark_call, close_on, close_call, waiting_in, ready_in, both_closed, next_of, without, after_take, take_on, take_call}
 use Rattle.join.specs.State.{State, sound, Sound, view, state_of, fresh_state}
-use Rattle.join.specs.Calls.{called, side_of, judge_rows, entry_on, entry_call, mark_on, mark_call, close_on, close_call, waiting_in, ready_in, both_closed, next_of, without, after_take, take_on, take_call}
 use Rattle.join.proofs.Facts.{sound_parts, parts_sound, judged_met}
 use Rattle.join.proofs.View.{view_across, state_of_across}
 

@@ -19,10 +19,9 @@ use Rattle.pairing.specs.declared.Side.{Side}
 use Rattle.pairing.specs.declared.Side.TheVariants.{A, B}
 use Rattle.pairing.specs.Pair.{comes_before}
 use Rattle.pairing.proofs.Arrival.{pair_from_start, all_new_pairs}
-use Rattle.journal.specs.Answer.{Accepted}
+use Rattle.journal.specs.Answer.{Accepted, first_of}
 use Rattle.journal.specs.declared.Gate.{Gate}
 use Rattle.journal.specs.declared.Gate.TheVariants.{Open, Closed}
-use Rattle.journal.specs.Answer.{first_of}
 use Rattle.journal.specs.Journal.{mark_rows}
 use Rattle.journal.proofs.Facts.{timely_onward, mark_met}
 use Rattle.journal.proofs.Onward.{Onward, onward_same, onward_closed}
@@ -35,9 +34,8 @@ use Rattle.halves.specs.View.{View}
 use Rattle.halves.specs.Calls.{arrival, formed, entry_rows, after_entry, after_move, close_rows}
 use Rattle.halves.proofs.Facts.{entry_met}
 use Rattle.halves.proofs.Kept.{sound_move, sound_entry_lem}
-use Rattle.join.specs.Calls.{Took, Handed}
+use Rattle.join.specs.Calls.{Took, Handed, Outcome, called, side_of, judge_rows, entry_call, mark_call, close_call, waiting_in, ready_in, ready_of, both_closed, next_of, with_queue, without, after_take, take_on, take_call}
 use Rattle.join.specs.State.{State, Sound, view, state_of}
-use Rattle.join.specs.Calls.{Outcome, called, side_of, judge_rows, entry_call, mark_call, close_call, waiting_in, ready_in, ready_of, both_closed, next_of, with_queue, without, after_take, take_on, take_call}
 use Rattle.join.proofs.Facts.{judged_met}
 use Rattle.join.proofs.View.{view_state_of, view_waiting}
 use Rattle.join.proofs.Kept.{sound_view, without_kept}

@@ -1,6 +1,5 @@
 -- What each call answers and leaves, for every state and every argument.
-use Rattle.std.specs.Prelude.{ℕ, Bool, cond, not, ◌&&◌, List, [], ◌∷◌, ◌++◌, ltb, eqb, drop, Result, Ok, Err}
-use Rattle.std.specs.Prelude.{filter}
+use Rattle.std.specs.Prelude.{ℕ, Bool, cond, not, ◌&&◌, List, [], ◌∷◌, ◌++◌, ltb, eqb, drop, Result, Ok, Err, filter}
 use Rattle.lists.specs.Check.{Check, ◌gives◌}
 use Rattle.pairing.specs.declared.Entry.{Entry}
 use Rattle.pairing.specs.declared.Pair.{Pair}

@@ -1,7 +1,6 @@
 -- A count of partners over a lent run of entries, which keeps nothing.
-use Rattle.std.specs.Prelude.{ℕ, cond, List, map, length, Result, Ok, Err}
+use Rattle.std.specs.Prelude.{ℕ, cond, List, map, length, Result, Ok, Err, filter}
 use Rattle.interval.specs.Interval.{proper_of}
-use Rattle.std.specs.Prelude.{filter}
 use Rattle.pairing.specs.declared.Entry.{Entry}
 use Rattle.pairing.specs.declared.Numbered.{Numbered}
 use Rattle.pairing.specs.declared.Rule.{Rule}
