@@ -4,6 +4,7 @@ pub mod FlatMap
 pub mod Filter
 pub mod Last
 pub mod Order
+pub mod Point
 pub mod Sort
 pub mod Grid
 pub mod Judge

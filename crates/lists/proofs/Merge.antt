@@ -7,8 +7,9 @@ use mathlib.Core.List.{List, [], ◌∷◌, ◌++◌, append_assoc, map, map-app
 use mathlib.Core.Logic.{inl}
 use mathlib.Core.Path.{◌≡◌, refl, sym, ap, ◌∙◌}
 use lib.ListN.{length, take, drop, set, get_or, length-append, length-map, length-take, length-drop, length-set, take-append-drop}
-use lib.Seq.{slice, paste, drop-cons, drop_at, get_or-take, get_or-drop, length-take-le, length-paste, take_all, take-take, take-append-le, take-set-le, drop-set-lt, get_or-set_same, lt-length-set}
+use lib.Seq.{slice, paste, drop-cons, drop_at, get_or-take, get_or-drop, length-take-le, length-paste, paste-zero, take_all, take-take, take-append-le, take-set-le, drop-set-lt, get_or-set_same, lt-length-set}
 use borrow.Author.Rules.{rules}
+use Rattle.std.specs.List.{AllWithin}
 use Rattle.std.specs.List.Sorted.{IsPartitionedBy, IsPartitionPoint}
 use Rattle.std.proofs.lemmas.Bool.{not-true}
 use Rattle.std.proofs.lemmas.Slice.{between_is}
@@ -134,6 +135,13 @@ module _ {A : Type 0} (r : A → A → Bool) (strict : StrictOrder r) (x : A) wh
       not-false : (b : Bool) → not b ≡ false → b ≡ true
       not-false true e = refl
       not-false false e = absurd (true≢false e)
+
+  -- where x comes before none of the first w, none moves
+  pub slid_behind : (l : List A) (w gap : ℕ) → 0 < gap → w + gap ≤ length l → AllWithin (λ y. below r x y ≡ true) (take w l) 0 w → Slid r x l w gap w (set l (w + gap - 1) x)
+  slid_behind l w gap some inside all =
+      let none : w - w ≡ 0 = omega arith in
+      let same : paste l (w + gap) (drop w l) (w - w) ≡ l = ap (λ (n : ℕ). paste l (w + gap) (drop w l) n) none ∙ sym (paste-zero l (w + gap) (drop w l)) in
+      rw same at (slid l w gap w some inside (omega arith) (all, λ i d h k. absurd (omega (arith, h, k, length-take-le w l (omega arith)))))
 
 -- ---- all the new elements: f of each source element that passes the test m, the sources taken from the last down
 

@@ -1,13 +1,13 @@
 -- Laws of the queue: what its places store, what dropping and a merge leave, and what is ready.
-use Prim.Native.Nat.{ℕ, ◌+◌, ◌-◌, ◌≤◌}
+use Prim.Native.Nat.{ℕ, ◌+◌, ◌-◌, ◌≤◌, ◌<◌}
 use native.Mathlib.Nat.{zero-add}
 use native.Mathlib.Omega.{arith}
-use mathlib.Core.Bool.{Bool, true, false, ◌&&◌, and-false}
+use mathlib.Core.Bool.{Bool, true, false, not, ◌&&◌, and-false}
 use mathlib.Core.List.{List, ◌++◌}
 use mathlib.Core.Path.{◌≡◌, refl, sym, ap, ◌∙◌}
 use lib.Dec.{leb, eqb}
-use lib.ListN.{length, replicate, take, drop, length-drop}
-use lib.Seq.{slice, paste, drop-drop}
+use lib.ListN.{length, replicate, take, drop, get_or, length-drop}
+use lib.Seq.{slice, paste, drop-drop, get_or-take}
 use borrow.Author.Rules.{rules}
 use borrow.Author.Tests.{eqb-true, leb-true}
 use borrow.Rule.Slice.PartMut.{put_mid}
@@ -21,6 +21,7 @@ use Rattle.lists.proofs.Bools.{and_left, and_right}
 use Rattle.lists.proofs.First.{Down, filter_prefix}
 use Rattle.lists.proofs.InPlace.{moved_padded, padded_over}
 use Rattle.lists.proofs.Judge.{Passes, passes, chain_each}
+use Rattle.lists.proofs.Merge.{below}
 use Rattle.lists.proofs.Order.{Ascending}
 use Rattle.lists.proofs.Sort.{insert_all_by_length}
 use Rattle.lists.proofs.Store.{stores_length, stored_length, stores_rest, stores_judged}
@@ -96,6 +97,12 @@ sound_holds of_a of_b queue full e =
 -- neighbours in order are all in order
 pub ascending_waiting : (queue : Queue) → chain comes_before (waiting queue) ≡ true → Ascending comes_before (waiting queue)
 ascending_waiting queue sorted = chain_each comes_before strict_comes_before.trans (waiting queue) sorted
+
+-- ---- where a new pair goes
+
+-- what is answered of the pair in a place, said of the first w of them
+pub asked : (p : Pair) (l : List Pair) (w n : ℕ) {answer : Bool} (b : Bool) → n < w → answer ≡ comes_before p (get_or l n no_pair) → answer ≡ b → below comes_before p (get_or (take w l) n no_pair) ≡ not b
+asked p l w n b h e f = ap (below comes_before p) (get_or-take w l n no_pair h) ∙ ap not (sym e ∙ f)
 
 -- ---- what is ready
 

@@ -1,11 +1,12 @@
 // The queue: the pairs formed and not yet handed out, in the plain list's order.
 #![tactic(auto)]
 
-ghost use Rattle.std.specs.Prelude.{◌≡◌, true, ◌+◌, ◌≤◌, ◌<◌, [], length, get_or, take, drop, filter};
+ghost use Rattle.std.specs.Prelude.{◌≡◌, true, false, ◌+◌, ◌≤◌, ◌<◌, [], length, get_or, take, drop, filter};
 ghost use Rattle.std.specs.List.{list_all};
+ghost use Rattle.std.specs.List.Sorted.{IsPartitionPoint};
 ghost use Rattle.lists.specs.Judge.{chain};
 ghost use Rattle.lists.specs.Sort.{insert_all_by};
-ghost use Rattle.lists.proofs.Merge.{Slid};
+ghost use Rattle.lists.proofs.Merge.{Slid, below};
 ghost use Rattle.lists.proofs.Order.{Ascending};
 ghost use Rattle.pairing.specs.Pair.{comes_before};
 ghost use Rattle.pairing.specs.Side.{new_pairs};
@@ -92,15 +93,43 @@ impl Queue {
         self.count = n - k;
     }
 
-    // Of the first w pairs, those that p comes before moved up by gap places, and p below them; answers how many are below p.
+    // Where p goes among the first w pairs: behind those that it does not come before. Most new pairs go near the end, so it is sought from there, twice as far back at each turn, and then between the last two places by halves.
+    fn place_of(&self, w: usize, p: Pair) -> usize
+        requires { (w ≤ places) × Ascending comes_before (take w self.now.places) }
+        ensures { (result ≤ w) × IsPartitionPoint (λ q. below comes_before p q ≡ true) (λ q. below comes_before p q ≡ false) (take w self.now.places) result }
+    {
+        let mut high = w;
+        let mut back = 1;
+        while back <= w && p.comes_before(self.places[w - back]) {
+            high = w - back;
+            back *= 2;
+        }
+        let low = (w + 1).saturating_sub(back);
+        low + self.places[low..high].partition_point(|q| !p.comes_before(*q))
+    }
+
+    // As `slide`, for a pair that comes before some of them. Apart, so that the loop over the new pairs is short.
+    #[inline(never)]
+    fn slide_among(&mut self, w: usize, gap: usize, p: Pair) -> usize
+        requires { (0 < gap) × (w + gap ≤ places) × Ascending comes_before (take w self.old.places) }
+        ensures { (self.new.count ≡ self.old.count) × Slid comes_before p self.old.places w gap result self.new.places }
+    {
+        let k = self.place_of(w, p);
+        self.places.copy_within(k..w, k + gap);
+        self.places[k + gap - 1] = p;
+        k
+    }
+
+    // Of the first w pairs, those that p comes before moved up by gap places, and p below them; answers how many are below p. Most new pairs go behind all of them.
     fn slide(&mut self, w: usize, gap: usize, p: Pair) -> usize
         requires { (0 < gap) × (w + gap ≤ places) × Ascending comes_before (take w self.old.places) }
         ensures { (self.new.count ≡ self.old.count) × Slid comes_before p self.old.places w gap result self.new.places }
     {
-        let k = self.places[..w].partition_point(|q| !p.comes_before(*q));
-        self.places.copy_within(k..w, k + gap);
-        self.places[k + gap - 1] = p;
-        k
+        if 0 < w && p.comes_before(self.places[w - 1]) {
+            return self.slide_among(w, gap, p);
+        }
+        self.places[w + gap - 1] = p;
+        w
     }
 
     // The new pairs of an arrival, as many as are given, put into their places among the waiting ones.
