@@ -3,7 +3,7 @@ use Prim.Native.Nat.{ℕ, ◌+◌, ◌-◌, ◌≤◌}
 use native.Mathlib.Omega.{arith}
 use mathlib.Core.List.{List, [], ◌∷◌, ◌++◌, append_assoc}
 use mathlib.Core.Path.{◌≡◌, refl, ap, ◌∙◌}
-use lib.ListN.{length, take, drop, length-drop}
+use lib.ListN.{length, take, drop, length-append, length-drop}
 use lib.Seq.{drop-drop, take-add, take_at, drop_at, take-take}
 use Rattle.std.proofs.lemmas.List.{drop-take}
 use Rattle.feed.specs.Number.{value, bytes, Bytes}
@@ -28,6 +28,12 @@ pair_places bs = rw (drop-drop 4 4 bs, drop-drop 4 8 bs, drop-drop 4 12 bs, drop
 abbrev pub total : List ℕ → ℕ
 total [] = 0
 total (width ∷ widths) = width + total widths
+
+pub packed_length : (widths numbers : List ℕ) → Room widths numbers → length (packed widths numbers) ≡ total widths
+packed_length [] [] h = refl
+packed_length [] (number ∷ numbers) h = elim h [ ]
+packed_length (width ∷ widths) [] h = elim h [ ]
+packed_length (width ∷ widths) (number ∷ numbers) h = simp (length-append, bytes_length, packed_length widths numbers h.1)
 
 -- numbers that were packed are unpacked, whatever follows them
 pub unpacked_packed : (widths numbers rest : List ℕ) → Room widths numbers → unpacked widths (packed widths numbers ++ rest) ≡ numbers

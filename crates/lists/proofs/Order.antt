@@ -1,11 +1,11 @@
 -- What sorting asks of an order, and that `ascending` makes such orders.
 use Prim.Native.Nat.{ℕ, ◌<◌}
 use native.Mathlib.Omega.{arith}
-use mathlib.Core.Bool.{Bool, true, false, true≢false}
+use mathlib.Core.Bool.{Bool, true, false, true≢false, and-false, or-false}
 use mathlib.Core.List.{List}
 use mathlib.Core.Path.{◌≡◌, refl, sym, ◌∙◌}
 use mathlib.Core.Logic.{◌⊎◌, inl, inr}
-use lib.Dec.{ltb}
+use lib.Dec.{ltb, eqb}
 use borrow.Author.Tests.{ltb-true, ltb-false, lt-ltb, le-ltb, eq-eqb, ne_eqb}
 use Rattle.lists.specs.Sort.{ascending, neither}
 use Rattle.lists.proofs.All.{Each}
@@ -40,6 +40,11 @@ module _ {A : Type 0} where
   unfolding neither
   strict_neither = record { asym = λ x y h. refl; trans = λ x y z h k. h }
 
+-- the last number decides alone
+pub ascending_last : {A : Type 0} (number : A → ℕ) (x y : A) → ascending number neither x y ≡ ltb (number x) (number y)
+unfolding ascending neither
+ascending_last number x y = rw (and-false (eqb (number x) (number y)), or-false (ltb (number x) (number y)))
+
 module _ {A : Type 0} (number : A → ℕ) (next : A → A → Bool) where
   pub ascending_less : (x y : A) → number x < number y → ascending number next x y ≡ true
   unfolding ascending
@@ -52,6 +57,11 @@ module _ {A : Type 0} (number : A → ℕ) (next : A → A → Bool) where
   pub ascending_more : (x y : A) → number y < number x → ascending number next x y ≡ false
   unfolding ascending
   ascending_more x y h = rw (le-ltb (number x) (number y) (omega arith), ne_eqb (number x) (number y) (λ e. omega arith))
+
+  -- where the numbers differ, what follows does not matter
+  pub ascending_differ : (x y : A) → (number x ≡ number y → ⊥) → ascending number next x y ≡ ltb (number x) (number y)
+  unfolding ascending
+  ascending_differ x y h = rw (ne_eqb (number x) (number y) h, or-false (ltb (number x) (number y)))
 
   pub strict_ascending : StrictOrder next → StrictOrder (ascending number next)
   strict_ascending o = record { asym = λ x y h. one x y h (compared (number x) (number y)); trans = λ x y z h k. two x y z h k (compared (number x) (number y)) (compared (number y) (number z)) }

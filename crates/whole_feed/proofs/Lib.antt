@@ -1,1 +1,2 @@
+pub mod Fitted
 pub mod Unique
