@@ -186,7 +186,7 @@ impl Feed {
 }
 
 impl Record {
-    // Is its stream 0 or 1? A note has none. An arm for each kind: with one for the three that have a stream, a caller asks for the kind once more, and a mark is read in a quarter more instructions.
+    // Is its stream 0 or 1? A note has none. An arm for each kind: with one for the three that have a stream, a caller asks for the kind once more, and a mark is read in a fifth more instructions.
     #[tactic(auto, unfolding(crate::specs::Record::stream_known))]
     fn stream_known(self) -> bool
         ensures { result ≡ stream_known self }
