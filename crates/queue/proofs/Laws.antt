@@ -1,4 +1,4 @@
--- Laws of the queue: what its places store, what dropping and a merge leave, and what is ready.
+-- Laws of the queue: what its places store, where a new pair goes, what dropping and a merge leave, and what is ready.
 use Prim.Native.Nat.{ℕ, ◌+◌, ◌-◌, ◌≤◌, ◌<◌}
 use native.Mathlib.Nat.{zero-add}
 use native.Mathlib.Omega.{arith}

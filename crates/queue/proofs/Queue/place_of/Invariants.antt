@@ -1,4 +1,4 @@
--- From `high` on all come after p, and the first place that the next turn does not reach is not behind it.
+-- From `high` on all come after p, and the place that the next turn asks stands in front of `high`. The measure is how far it may still go back.
 use Prim.Native.Nat.{◌+◌, ◌*◌, ◌≤◌, ◌<◌}
 use mathlib.Core.Bool.{false}
 use mathlib.Core.Path.{◌≡◌}
